@@ -6,7 +6,7 @@ use Rattle.command_files.specs.Contents.{Contents}
 use Rattle.command_files.specs.declared.fault.Fault.{Fault}
 use Rattle.command_files.specs.declared.fault.Fault.TheVariants.{BadAddress, BadEvent, BytesAfterTrace, CannotMake, CannotRead, CannotShow, CannotWrite, Check, Configuration, Event, Image, Mismatch, NoThread, NothingHappens, OutOfMemory, Text, TooManyRows}
 use Rattle.command_settings.specs.declared.wanted.Explore.{Explore}
-use Rattle.explore_command.specs.Exploring.{ComesBeforeJudging, ComesBeforeScripts, IsExploreFault, IsFirstFault, IsFolderFault, IsNamedBy, IsReadingFault, LeavesPart}
+use Rattle.explore_command.specs.Exploring.{ComesBeforeScripts, IsExploreFault, IsFirstFault, IsFolderFault, IsNamedBy, IsReadingFault, LeavesPart}
 use Rattle.text_fields.specs.Writing.{Begins}
 
 -- ---- files that are read
@@ -126,9 +126,6 @@ folder_late scripts fault so early = elim (folder_fault scripts fault so) [
 
 pub memory_late : (fault : Fault) → fault ≡ OutOfMemory → ComesBeforeScripts fault → ⊥
 memory_late fault is early = subst ComesBeforeScripts is early
-
-pub memory_last : (fault : Fault) → fault ≡ OutOfMemory → ComesBeforeJudging fault → ⊥
-memory_last fault is early = subst ComesBeforeJudging is early
 
 -- whatever the fault, nothing was printed or a part
 pub some_part : (old new : Option (List ℕ)) (Has : (List ℕ → Type 0) → Type 0) (fault : Fault) → (Has (Appends old new) → Has (Begins old new)) → LeavesPart fault old new Has → (new ≡ old) ⊎ Has (Begins old new)

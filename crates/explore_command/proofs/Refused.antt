@@ -92,7 +92,7 @@ pub begun : {T E : Type 0} (before after : Option (List ℕ)) (text : List ℕ) 
 begun before after text (Ok x) sent = record { front = text; rest = []; parts = sym (append-nil text); sent = sent }
 begun before after text (Err e) front = front
 
-nothing : (before after : Option (List ℕ)) (text : List ℕ) → after ≡ before → Begins before after text
+pub nothing : (before after : Option (List ℕ)) (text : List ℕ) → after ≡ before → Begins before after text
 nothing before after text same = record { front = []; rest = text; parts = refl; sent = subst (λ (a : Option (List ℕ)). Appends before a []) (sym same) (appends_none before) }
 
 -- whatever was judged, and where memory did not suffice for it, no more than a beginning did

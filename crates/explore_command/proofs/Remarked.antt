@@ -1,9 +1,14 @@
 -- What is told of traces, line after line.
-use Rattle.std.proofs.Common.{◌≡◌, ◌∙◌, ◌+◌, ◌-◌, ◌<◌, ◌≤◌, ◌∷◌, ◌++◌, ℕ, [], List, ap, arith, drop, get_or, length, refl, subst, sym, take}
+use Rattle.std.proofs.Common.{◌≡◌, ◌∙◌, ◌+◌, ◌-◌, ◌<◌, ◌≤◌, ◌∷◌, ◌++◌, ℕ, [], List, None, Option, Some, ap, arith, drop, get_or, length, refl, subst, sym, take}
 use Rattle.std.proofs.lemmas.List.{append-nil, append_assoc}
-use Rattle.explore_command.specs.Telling.{AreRemarks, GrowsBy, IsRemark, TellsWay, TellsWays}
+use Rattle.std.specs.Prelude.{codes, decimal}
+use Rattle.explore_command.specs.Telling.{AreRemarked, AreRemarks, GrowsBy, IsRemark, TellsWay, TellsWays}
 use Rattle.architecture_outcomes.specs.declared.outcome.Outcome.{Outcome}
-use Rattle.explore_command.proofs.Refused.{behind_first}
+use Rattle.explore_command.proofs.Refused.{behind_first, nothing}
+use Rattle.architecture_outcomes.specs.declared.outcome.Way.{Way}
+use Rattle.architecture_outcomes.specs.declared.outcome.Way.TheVariants.{Machine, Model, ModelAlone}
+use Rattle.command_files.specs.Faults.{Name}
+use Rattle.order_remarks.specs.Overtaking.{overtakings}
 use Rattle.order_remarks.specs.declared.overtaking.Overtaking.{Overtaking}
 use Rattle.explore_command.proofs.Shown.{first_is}
 
@@ -54,3 +59,29 @@ one_way_told number lines new left tail all o first told (here, grown, is) = rec
 pub all_ways_told : (number : ℕ) (lines : List ℕ) (left all : List Outcome) → length left < 1 → HasToldWays number lines left all → TellsWays 1 all lines
 all_ways_told number lines left all few told =
     subst (TellsWays 1 all) (append-nil lines) (told.whole [] (subst (λ (os : List Outcome). TellsWays number os []) (sym (none_of left few)) refl))
+
+-- ---- of none
+
+some_remarks : (number : ℕ) (pairs : List Overtaking) → (text : List ℕ) × AreRemarks number pairs text
+some_remarks number [] = ([], refl)
+some_remarks number (pair ∷ rest) =
+    let more = some_remarks number rest in
+    let line : List ℕ = codes "outcome " ++ (decimal number ++ (codes ": " ++ ([] ++ codes "\n"))) in
+    (line ++ more.0, (line, more.0, refl, ([], refl), more.1))
+
+some_of_way : (number : ℕ) (way : Way) → (text : List ℕ) × TellsWay number way text
+some_of_way number (Machine script) = ([], refl)
+some_of_way number (ModelAlone trace) = some_remarks number (overtakings trace.history)
+some_of_way number (Model trace) = ([], refl)
+
+some_of_ways : (number : ℕ) (outcomes : List Outcome) → (text : List ℕ) × TellsWays number outcomes text
+some_of_ways number [] = ([], refl)
+some_of_ways number (o ∷ rest) =
+    let here = some_of_way number o.way in
+    let more = some_of_ways (number + 1) rest in
+    (here.0 ++ more.0, (here.0, more.0, refl, here.1, more.1))
+
+-- where nothing went out, that is a beginning of what there is to tell
+pub untold : (scripts : Option Name) (outcomes : List Outcome) (before after : Option (List ℕ)) → after ≡ before → AreRemarked scripts outcomes before after
+untold None outcomes before after same = same
+untold (Some folder) outcomes before after same = let all = some_of_ways 1 outcomes in (all.0, all.1, nothing before after all.0 same)

@@ -125,8 +125,3 @@ abbrev pub ComesBeforeScripts : Fault → Type 0
 ComesBeforeScripts (CannotMake file) = ⊥
 ComesBeforeScripts OutOfMemory = ⊥
 ComesBeforeScripts _ = Unit {0}
-
--- it is told before the outcomes are judged, where that comes last
-abbrev pub ComesBeforeJudging : Fault → Type 0
-ComesBeforeJudging OutOfMemory = ⊥
-ComesBeforeJudging _ = Unit {0}

@@ -1,10 +1,11 @@
-//! `rvtl explore`: every end that the machine can bring a program to is found, told, kept and judged.
+//! `rvtl explore`: every end that the machine can bring a program to is found, told, judged and kept.
 
-ghost use Rattle.std.specs.Prelude.{◌≡◌, ◌<◌, Err, IfErr, IfOk, OnErr};
+ghost use Rattle.std.specs.Prelude.{◌≡◌, ◌⊎◌, ◌<◌, Err, IfErr, IfOk, OnErr};
 ghost use Rattle.command_files.specs.Sizes.{IsOutside};
 ghost use Rattle.explore_command.specs.Exploring.{ComesBeforeScripts, ExplorationHas, ExplorationRefusals, IsExploreFault, IsExplorationTold, IsFoundIn, LeavesPart};
 ghost use Rattle.explore_command.specs.Judging.{IsToldBy};
 ghost use Rattle.explore_command.specs.Keeping.{IsScriptFile, SparesOthers};
+ghost use Rattle.text_fields.specs.Writing.{Begins};
 
 use crate::asked::Asked;
 use crate::findings::print;
@@ -31,9 +32,9 @@ impl<P: Progress> Watch for Telling<'_, P> {
 }
 
 /// Judges the machine's size, reads what is allowed, then the image, explores it, prints what is found on
-/// `out`, writes the scripts, and judges the outcomes: `err` tells which ones aren't allowed. Where memory
-/// ends, what was found is printed, written and judged all the same; a fault leaves `err` as it was. While it
-/// explores, `progress` is told how far it is.
+/// `out`, judges the outcomes, and writes their scripts: `err` has been told which outcomes aren't allowed also
+/// where the scripts can't be written. Where memory ends, what was found is printed, judged and written all the
+/// same. While it explores, `progress` is told how far it is.
 pub fn explore_files<'a, F: Files, O: Write, E: Write, P: Progress>(
     alloc: Global,
     files: &mut F,
@@ -52,15 +53,18 @@ pub fn explore_files<'a, F: Files, O: Write, E: Write, P: Progress>(
     ensures untouched { IfErr result (λ fault. ComesBeforeScripts fault → F.held files.new ≡ F.held files.old) }
     ensures noted { IfOk result (λ judgement. ExplorationRefusals (F.held files.old) wanted.entry (O.contents out.old) (O.contents out.new)
         (IsToldBy judgement (E.contents err.old) (E.contents err.new))) }
-    ensures silent { OnErr result (E.contents err.new ≡ E.contents err.old) }
+    ensures silent { IfErr result (λ fault. ComesBeforeScripts fault → E.contents err.new ≡ E.contents err.old) }
+    ensures judged_first { OnErr result ((E.contents err.new ≡ E.contents err.old) ⊎ ExplorationRefusals (F.held files.old) wanted.entry (O.contents out.old) (O.contents out.new)
+        (Begins (E.contents err.old) (E.contents err.new))) }
 {
     let asked = Asked::read(alloc, files, wanted)?;
     let Ok(found) = found_in(alloc, &asked, wanted, progress) else {
         return Err(Fault::OutOfMemory);
     };
     print(alloc, &found, out)?;
+    let judgement = judge(alloc, &asked.allowed, &found, err);
     keep(alloc, files, wanted, asked.config, &found)?;
-    judge(alloc, &asked.allowed, &found, err)
+    judgement
 }
 
 /// The ends that the machine can bring a program to. While it explores, `progress` is told how far it is.

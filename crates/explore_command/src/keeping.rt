@@ -11,12 +11,20 @@ ghost use Rattle.explore_command.specs.Keeping.{AreKept, AreKeptFrom, FileName, 
 ghost use Rattle.machine_types.specs.declared.config.Config.{Config};
 ghost use Rattle.trace_text.specs.Scripts.{text};
 
-use command_files::{Fault, Files, script_of, unmade};
+use command_files::{Fault, Files, remark, script_of, unmade};
 use command_settings::Explore;
 use explorer::{Exploration, Found, Realisation};
 use machine_types::{Config, Event};
 use std::alloc::{AllocError, Global};
 use trace_text::{Script, write_script};
+
+/// What is remarked where an outcome has no script.
+pub(crate) const NO_WAY_TO_OUTCOME: &str =
+    "no script was found that leads the machine to one of the outcomes";
+
+/// What is remarked where a stuck state has none.
+const NO_WAY_TO_STUCK: &str =
+    "no script was found that leads the machine to a state from which no schedule ends";
 
 /// Where scripts are written, and for which machine they are.
 #[derive(Clone, Copy)]
@@ -90,7 +98,7 @@ impl<'a> Folder<'a> {
         let Ok(path) = self.stuck_path() else {
             return Err(Fault::OutOfMemory);
         };
-        self.keep_at(files, &path, &stuck.script)
+        self.keep_at(files, &path, &stuck.script, NO_WAY_TO_STUCK)
     }
 
     /// Writes a script for each outcome, the last one first.
@@ -109,7 +117,7 @@ impl<'a> Folder<'a> {
             let Ok(path) = self.outcome_path(rest.len()) else {
                 return Err(Fault::OutOfMemory);
             };
-            self.keep_at(files, &path, &last.script)?;
+            self.keep_at(files, &path, &last.script, NO_WAY_TO_OUTCOME)?;
             rest = front;
         }
         Ok(())
@@ -129,12 +137,13 @@ impl<'a> Folder<'a> {
         format!(in self.alloc; "{name}/stuck.script")
     }
 
-    /// Writes the file of this path, if there are events to write.
+    /// Writes the file of this path, if there are events to write. Where none were found, that is remarked.
     fn keep_at<F: Files>(
         &self,
         files: &mut F,
         path: &str,
         way: &Realisation,
+        not_found: &'static str,
     ) -> Result<(), Fault<'a>>
         requires { IsMemoryKib self.now.kib }
         ensures kept { OnOk result (IsKeptAt (F.held files.new) self.now.config self.now.kib path.now way.now) }
@@ -144,9 +153,9 @@ impl<'a> Folder<'a> {
         match way {
             Realisation::Events(events) => self.write(files, path, events),
             Realisation::NoMemory => Err(Fault::OutOfMemory),
-            Realisation::Limit | Realisation::Unrealised => Err(Fault::CannotMake {
-                file: self.name,
-            }),
+            Realisation::Limit | Realisation::Unrealised => {
+                Err(without_script(self.alloc, files, self.name, not_found))
+            }
         }
     }
 
@@ -184,6 +193,20 @@ impl<'a> Folder<'a> {
             Err(error) => Err(unmade(self.alloc, files, self.name, error)),
         }
     }
+}
+
+/// The folder can't have a script that wasn't found, and that is remarked.
+pub(crate) fn without_script<'a, F: Files>(
+    alloc: Global,
+    files: &mut F,
+    folder: &'a str,
+    not_found: &'static str,
+) -> Fault<'a>
+    ensures told { result ≡ Fault.CannotMake folder.entry }
+    ensures stays { F.held files.new ≡ F.held files.old }
+{
+    remark(alloc, files, not_found);
+    Fault::CannotMake { file: folder }
 }
 
 fn copied(alloc: Global, events: &[Event]) -> Result<Vec<Event>, AllocError>

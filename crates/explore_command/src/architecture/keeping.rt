@@ -9,7 +9,7 @@ ghost use Rattle.explore_command.specs.Exploring.{IsFolderFault};
 ghost use Rattle.explore_command.specs.Keeping.{SparesOthers};
 ghost use Rattle.trace_text.specs.TraceLimits.{IsTrace};
 
-use crate::keeping::Folder;
+use crate::keeping::{Folder, NO_WAY_TO_OUTCOME, without_script};
 use architecture_outcomes::{Outcome, Way};
 use command_files::{Fault, Files, unmade};
 use explorer::Realisation;
@@ -70,7 +70,7 @@ fn keep_at<'a, F: Files>(
         Way::Machine(Realisation::Events(events)) => folder.write(files, path, events),
         Way::Machine(Realisation::NoMemory) => Err(Fault::OutOfMemory),
         Way::Machine(Realisation::Limit | Realisation::Unrealised) => {
-            Err(Fault::CannotMake { file: folder.name })
+            Err(without_script(folder.alloc, files, folder.name, NO_WAY_TO_OUTCOME))
         }
         Way::ModelAlone(trace) | Way::Model(trace) => put_trace(folder, files, path, trace),
     }

@@ -1,11 +1,11 @@
-//! `rvtl explore --architecture`: what a memory model allows a program is sought, told, kept and judged.
+//! `rvtl explore --architecture`: what a memory model allows a program is sought, told, judged and kept.
 
-ghost use Rattle.std.specs.Prelude.{◌≡◌, ◌<◌, Err, IfErr, IfOk, OnErr, OnOk};
+ghost use Rattle.std.specs.Prelude.{◌≡◌, ◌⊎◌, ◌<◌, Err, IfErr, IfOk, OnErr};
 ghost use Rattle.explore_command.specs.ModelKeeping.{IsFileInNamed};
 ghost use Rattle.explore_command.specs.Searching.{IsFoundUnder, IsSearchFault, IsSearchNoted, IsSearched, SearchHas};
 ghost use Rattle.explore_command.specs.Telling.{AreRemarked};
 ghost use Rattle.command_files.specs.Sizes.{IsOutside};
-ghost use Rattle.explore_command.specs.Exploring.{ComesBeforeJudging, ComesBeforeScripts, LeavesPart};
+ghost use Rattle.explore_command.specs.Exploring.{ComesBeforeScripts, LeavesPart};
 ghost use Rattle.explore_command.specs.Keeping.{SparesOthers};
 ghost use Rattle.explorer.specs.Words.{CanShowEach};
 
@@ -29,9 +29,10 @@ use text_fields::put;
 
 /// Judges the machine's size, reads what is allowed, then the image, looks for the words of memory that are to be shown,
 /// of which there need be none, searches for what the memory model allows with at most `window` operations of a hart
-/// waiting at a time, prints what is found on `out`, writes scripts and traces, and judges the outcomes: `err` tells how
-/// the traces of what the model alone allows leave program order, where they are written, and which outcomes aren't
-/// allowed. Where memory ends, what was found is printed, written and judged all the same. While it searches, `progress` is told how far it is.
+/// waiting at a time, prints what is found on `out`, judges the outcomes, and writes scripts and traces. Before these are
+/// written, `err` has been told how the traces of what the model alone allows leave program order, where a folder is
+/// named for them, and which outcomes aren't allowed. Where memory ends, what was found is printed, judged and written
+/// all the same. While it searches, `progress` is told how far it is.
 pub fn architecture_files<'a, F: Files, O: Write, E: Write, P: Progress>(
     alloc: Global,
     files: &mut F,
@@ -51,7 +52,8 @@ pub fn architecture_files<'a, F: Files, O: Write, E: Write, P: Progress>(
     ensures spared { SparesOthers (IsFileInNamed wanted.entry.scripts) (F.held files.old) (F.held files.new) }
     ensures untouched { IfErr result (λ fault. ComesBeforeScripts fault → F.held files.new ≡ F.held files.old) }
     ensures noted { IfOk result (λ judgement. IsSearchNoted (F.held files.old) wanted.entry words.now window judgement (O.contents out.old) (O.contents out.new) (E.contents err.old) (E.contents err.new)) }
-    ensures silent { IfErr result (λ fault. ComesBeforeJudging fault → E.contents err.new ≡ E.contents err.old) }
+    ensures silent { IfErr result (λ fault. ComesBeforeScripts fault → E.contents err.new ≡ E.contents err.old) }
+    ensures judged_first { OnErr result ((E.contents err.new ≡ E.contents err.old) ⊎ IsSearchNoted (F.held files.old) wanted.entry words.now window Judgement.NotAllowed (O.contents out.old) (O.contents out.new) (E.contents err.old) (E.contents err.new)) }
 {
     let AskedWords {
         config,
@@ -77,9 +79,11 @@ pub fn architecture_files<'a, F: Files, O: Write, E: Write, P: Progress>(
     // Called for its clause that the bytes are an image's.
     let _entry = image.entry();
     print(alloc, &found, out)?;
+    let remarked = tell(alloc, wanted, &found.architecture.outcomes, err);
+    let judgement = judge(alloc, &allowed, &found, err);
     keep(alloc, files, wanted, config, &found)?;
-    tell(alloc, wanted, &found.architecture.outcomes, err)?;
-    judge(alloc, &allowed, &found, err)
+    remarked?;
+    judgement
 }
 
 /// What the memory model allows a program, with these words of memory. While it searches, `progress` is told how far it
@@ -107,7 +111,7 @@ fn found_under<P: Progress>(
     found
 }
 
-/// Tells what the traces show, where they were written.
+/// Tells what the traces show, where a folder is named for them. Where memory ends, it tells nothing.
 fn tell<'a, E: Write>(
     alloc: Global,
     wanted: Explore<'a>,
@@ -115,7 +119,7 @@ fn tell<'a, E: Write>(
     err: &mut E,
 ) -> Result<(), Fault<'a>>
     ensures told { IfErr result (λ fault. fault ≡ Fault.OutOfMemory) }
-    ensures remarked { OnOk result (AreRemarked wanted.entry.scripts outcomes.now (E.contents err.old) (E.contents err.new)) }
+    ensures remarked { AreRemarked wanted.entry.scripts outcomes.now (E.contents err.old) (E.contents err.new) }
     ensures silent { OnErr result (E.contents err.new ≡ E.contents err.old) }
 {
     if wanted.scripts.is_none() {

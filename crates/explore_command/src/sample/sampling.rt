@@ -1,11 +1,12 @@
-//! `rvtl explore --sample`: random runs are made, and the ends they come to are told, kept and judged.
+//! `rvtl explore --sample`: random runs are made, and the ends they come to are told, judged and kept.
 
-ghost use Rattle.std.specs.Prelude.{◌≡◌, Err, IfErr, IfOk, OnErr};
+ghost use Rattle.std.specs.Prelude.{◌≡◌, ◌⊎◌, Err, IfErr, IfOk, OnErr};
 ghost use Rattle.command_files.specs.Sizes.{IsOutside};
 ghost use Rattle.explore_command.specs.Exploring.{ComesBeforeScripts, IsExploreFault, LeavesPart};
 ghost use Rattle.explore_command.specs.Judging.{IsToldBy};
 ghost use Rattle.explore_command.specs.Keeping.{IsScriptFile, SparesOthers};
 ghost use Rattle.explore_command.specs.Sampling.{AreRuns, IsSampleTold, SampleHas, SampleRefusals};
+ghost use Rattle.text_fields.specs.Writing.{Begins};
 
 use crate::asked::Asked;
 use crate::exploring::Telling;
@@ -27,9 +28,9 @@ impl<P: Progress> SampleWatch for Telling<'_, P> {
 }
 
 /// Judges the machine's size, reads what is allowed, then the image, makes `runs` random runs that `seed`
-/// determines, prints the ends they came to on `out`, writes their scripts, shortened, and judges them: `err`
-/// tells which ones aren't allowed. Where memory ends, the runs before are printed, written and judged all the
-/// same; a fault leaves `err` as it was. While they are made, `progress` is told how far they are.
+/// determines, prints the ends they came to on `out`, judges them, and writes their scripts, shortened: `err` has
+/// been told which ends aren't allowed also where the scripts can't be written. Where memory ends, the runs before
+/// are printed, judged and written all the same. While they are made, `progress` is told how far they are.
 pub fn sample_files<'a, F: Files, O: Write, E: Write, P: Progress>(
     alloc: Global,
     files: &mut F,
@@ -49,7 +50,9 @@ pub fn sample_files<'a, F: Files, O: Write, E: Write, P: Progress>(
     ensures untouched { IfErr result (λ fault. ComesBeforeScripts fault → F.held files.new ≡ F.held files.old) }
     ensures noted { IfOk result (λ judgement. SampleRefusals (F.held files.old) wanted.entry runs (O.contents out.old) (O.contents out.new)
         (IsToldBy judgement (E.contents err.old) (E.contents err.new))) }
-    ensures silent { OnErr result (E.contents err.new ≡ E.contents err.old) }
+    ensures silent { IfErr result (λ fault. ComesBeforeScripts fault → E.contents err.new ≡ E.contents err.old) }
+    ensures judged_first { OnErr result ((E.contents err.new ≡ E.contents err.old) ⊎ SampleRefusals (F.held files.old) wanted.entry runs (O.contents out.old) (O.contents out.new)
+        (Begins (E.contents err.old) (E.contents err.new))) }
 {
     let asked = Asked::read(alloc, files, wanted)?;
     let Ok(sampled) = runs_of(alloc, &asked, wanted, runs, seed, progress) else {
@@ -60,8 +63,9 @@ pub fn sample_files<'a, F: Files, O: Write, E: Write, P: Progress>(
         asked: runs,
     };
     print(alloc, &found, out)?;
+    let judgement = judge(alloc, &asked.allowed, &found, err);
     keep(alloc, files, wanted, asked.config, &found)?;
-    judge(alloc, &asked.allowed, &found, err)
+    judgement
 }
 
 /// The ends that so many random runs of a program come to. While they are made, `progress` is told how far they are.

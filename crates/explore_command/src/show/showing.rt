@@ -1,5 +1,5 @@
-//! `rvtl explore --show`: every end that the machine can bring a program to is found with words of memory, told, kept
-//! and judged.
+//! `rvtl explore --show`: every end that the machine can bring a program to is found with words of memory, told,
+//! judged and kept.
 
 ghost use Rattle.std.specs.Prelude.{◌≡◌, ◌⊎◌, ◌<◌, Err, IfErr, IfOk, IfSome, IsNone, OnErr};
 ghost use Rattle.command_files.specs.Faults.{Name};
@@ -27,8 +27,7 @@ use std::alloc::{AllocError, Global};
 use std::io::Write;
 
 /// Does what `explore_files` does, where words of memory are to be shown: each is judged behind the image. Random runs
-/// show none. The outcomes are judged before their scripts are written, and where these can't be `err` has been told all
-/// the same which ones aren't allowed.
+/// show none.
 pub fn show_files<'a, F: Files, O: Write, E: Write, P: Progress>(
     alloc: Global,
     files: &mut F,

@@ -1,9 +1,9 @@
-use Rattle.std.proofs.Common.{refl}
+use Rattle.std.proofs.Common.{inl, inr, refl}
 use Rattle.command_files.proofs.Left.{handed_up}
 use Rattle.explore_command.proofs.Explored.{all_of, err_more, has, judged, memory_left, memory_told, ok_both, ok_more, refusals, spared, spared_after, whole}
 use Rattle.explore_command.proofs.Faults.{first_left, first_told, folder_late, folder_left, folder_told, memory_late, output_left, output_told}
 use Rattle.explore_command.proofs.Kept.{script_file, spares_wider}
-use Rattle.explore_command.proofs.Refused.{refusals_in}
+use Rattle.explore_command.proofs.Refused.{begun_by, on_err_more, on_err_of, refusals_in}
 use Rattle.explore_command.proofs.exploring.explore_files.Goals as goal
 
 pub returns-in_err-asked-clause-told : goal.returns-in_err-asked-clause-told
@@ -43,25 +43,25 @@ returns-in_err-keep-clause-spared g c = spared_after _ _ _ _ c.in_ok-asked.ensur
 
 pub returns-clause-explored : goal.returns-clause-explored
 returns-clause-explored g c =
-    ok_more _ _ c.judge.result
+    ok_more _ _ c.judge-judgement.result
     (λ judgement so.
     whole (g.F.Files.held c.args.files.now) c.args.wanted c.in_ok-asked.asked.config c.in_ok-asked.asked.image c.in-Ok.found c.in_ok-asked.ensures.config.0 c.in_ok-asked.ensures.config.1 c.in_ok-asked.ensures.image
     c.in-Ok.ensures
     _ _ (g.F.Files.held c.keep.new.files) judgement c.in_ok-print.ensures.printed c.in_ok-keep.ensures.kept (spared_after _ _ _ _ c.in_ok-asked.ensures.stays c.keep.ensures.spared) (judged _ c.args.wanted.allow _ _ judgement c.in_ok-asked.ensures.allowed so.0) so.1)
-    (ok_both _ _ c.judge.result c.judge.ensures.judged c.judge.ensures.whole)
+    (ok_both _ _ c.judge-judgement.result c.judge-judgement.ensures.judged c.judge-judgement.ensures.whole)
 
 pub returns-clause-told : goal.returns-clause-told
-returns-clause-told g c = err_more _ _ c.judge.result (λ fault is. memory_told _ c.args.wanted fault is) c.judge.ensures.told
+returns-clause-told g c = err_more _ _ c.judge-judgement.result (λ fault is. memory_told _ c.args.wanted fault is) c.judge-judgement.ensures.told
 
 pub returns-clause-unfinished : goal.returns-clause-unfinished
 returns-clause-unfinished g c =
-    err_more _ _ c.judge.result
+    err_more _ _ c.judge-judgement.result
     (λ fault is.
     memory_left fault _ _ _ is
     (has (g.F.Files.held c.args.files.now) c.args.wanted c.in_ok-asked.asked.config c.in_ok-asked.asked.image c.in-Ok.found c.in_ok-asked.ensures.config.0 c.in_ok-asked.ensures.config.1 c.in_ok-asked.ensures.image
     c.in-Ok.ensures
     _ (all_of _ _ _ c.in_ok-print.ensures.printed)))
-    c.judge.ensures.told
+    c.judge-judgement.ensures.told
 
 pub returns-clause-spared : goal.returns-clause-spared
 returns-clause-spared g c = spared_after _ _ _ _ c.in_ok-asked.ensures.stays (spares_wider _ _ _ _ (script_file _ _ c.args.wanted.scripts) c.keep.ensures.spared)
@@ -78,14 +78,39 @@ returns-in_err-keep-clause-untouched g c =
     handed_up _ c.from_residual-in_err-keep.result _ c.from_residual-in_err-keep.ensures.1 (λ early. absurd (folder_late c.args.wanted.scripts _ c.in_err-keep.ensures.told early))
 
 pub returns-clause-untouched : goal.returns-clause-untouched
-returns-clause-untouched g c = err_more _ _ c.judge.result (λ fault is early. absurd (memory_late fault is early)) c.judge.ensures.told
+returns-clause-untouched g c = err_more _ _ c.judge-judgement.result (λ fault is early. absurd (memory_late fault is early)) c.judge-judgement.ensures.told
 
 -- what is told of the outcomes that were printed
 pub returns-clause-noted : goal.returns-clause-noted
 returns-clause-noted g c =
-    ok_more _ _ c.judge.result
+    ok_more _ _ c.judge-judgement.result
     (λ judgement so.
     refusals (g.F.Files.held c.args.files.now) c.args.wanted c.in_ok-asked.asked.config c.in_ok-asked.asked.image c.in-Ok.found c.in_ok-asked.ensures.config.0 c.in_ok-asked.ensures.config.1 c.in_ok-asked.ensures.image
     c.in-Ok.ensures
     _ _ _ c.in_ok-print.ensures.printed (refusals_in _ c.args.wanted.allow _ _ _ c.in_ok-asked.ensures.allowed so))
-    c.judge.ensures.noted
+    c.judge-judgement.ensures.noted
+
+-- standard error is as before where the fault comes before the scripts
+pub returns-in_err-asked-clause-silent : goal.returns-in_err-asked-clause-silent
+returns-in_err-asked-clause-silent g c = handed_up _ c.from_residual.result _ c.from_residual.ensures.1 (λ early. refl)
+
+pub returns-in_err-print-clause-silent : goal.returns-in_err-print-clause-silent
+returns-in_err-print-clause-silent g c = handed_up _ c.from_residual-in_err-print.result _ c.from_residual-in_err-print.ensures.1 (λ early. refl)
+
+pub returns-in_err-keep-clause-silent : goal.returns-in_err-keep-clause-silent
+returns-in_err-keep-clause-silent g c =
+    handed_up _ c.from_residual-in_err-keep.result _ c.from_residual-in_err-keep.ensures.1 (λ early. absurd (folder_late c.args.wanted.scripts _ c.in_err-keep.ensures.told early))
+
+pub returns-clause-silent : goal.returns-clause-silent
+returns-clause-silent g c = err_more _ _ c.judge-judgement.result (λ fault is early. absurd (memory_late fault is early)) c.judge-judgement.ensures.told
+
+pub returns-in_err-keep-clause-judged_first : goal.returns-in_err-keep-clause-judged_first
+returns-in_err-keep-clause-judged_first g c =
+    on_err_of c.from_residual-in_err-keep.result (inr
+    (refusals (g.F.Files.held c.args.files.now) c.args.wanted c.in_ok-asked.asked.config c.in_ok-asked.asked.image c.in-Ok.found c.in_ok-asked.ensures.config.0 c.in_ok-asked.ensures.config.1 c.in_ok-asked.ensures.image
+    c.in-Ok.ensures
+    _ _ _ c.in_ok-print.ensures.printed
+    (refusals_in _ c.args.wanted.allow _ _ _ c.in_ok-asked.ensures.allowed (begun_by _ _ _ c.judge-judgement.result c.judge-judgement.ensures.noted c.judge-judgement.ensures.silent))))
+
+pub returns-clause-judged_first : goal.returns-clause-judged_first
+returns-clause-judged_first g c = on_err_more c.judge-judgement.result inl c.judge-judgement.ensures.silent

@@ -1,13 +1,15 @@
-use Rattle.std.proofs.Common.{List, inl, refl, subst, sym, ℕ}
+use Rattle.std.proofs.Common.{List, inl, inr, refl, subst, sym, ℕ}
 use Rattle.command_files.proofs.Left.{handed_up}
 use Rattle.explore_command.proofs.ModelKept.{way_file}
 use Rattle.explore_command.proofs.Readable.{each_has_text}
 use Rattle.explore_command.proofs.Searched.{has, noted, whole}
 use Rattle.explore_command.specs.Telling.{AreRemarked}
+use Rattle.explore_command.specs.declared.judging.Judgement.TheVariants.{NotAllowed}
 use Rattle.architecture_outcomes.specs.declared.outcome.Outcome.{Outcome}
 use Rattle.explore_command.proofs.Explored.{all_of, err_more, memory_left, memory_told, ok_both, ok_more, spared, spared_after}
-use Rattle.explore_command.proofs.Faults.{folder_late, folder_left, folder_told, memory_last, memory_late, output_left, output_told}
+use Rattle.explore_command.proofs.Faults.{folder_late, folder_left, folder_told, memory_late, output_left, output_told}
 use Rattle.explore_command.proofs.Kept.{spares_wider}
+use Rattle.explore_command.proofs.Refused.{begun_by, on_err_of}
 use Rattle.explore_command.proofs.Asking.{asking_left, asking_told}
 use Rattle.explore_command.specs.Asking.{HasProgram}
 use Rattle.explore_command.proofs.architecture.searching.architecture_files.Goals as goal
@@ -60,49 +62,49 @@ returns-in_err-keep-clause-unfinished g c =
 pub returns-in_err-keep-clause-spared : goal.returns-in_err-keep-clause-spared
 returns-in_err-keep-clause-spared g c = spared_after _ _ _ _ c.in_ok-config.ensures.stays (spares_wider _ _ _ _ (way_file _ c.args.wanted.scripts) c.keep.ensures.spared)
 
-pub returns-in_err-tell-clause-told : goal.returns-in_err-tell-clause-told
-returns-in_err-tell-clause-told g c = handed_up _ c.from_residual-in_err-tell.result _ c.from_residual-in_err-tell.ensures.1 (inl (memory_told _ c.args.wanted _ c.in_err-tell.ensures.told))
+pub returns-in_err-remarked-clause-told : goal.returns-in_err-remarked-clause-told
+returns-in_err-remarked-clause-told g c = handed_up _ c.from_residual-in_err-remarked.result _ c.from_residual-in_err-remarked.ensures.1 (inl (memory_told _ c.args.wanted _ c.in_err-remarked.ensures.told))
 
-pub returns-in_err-tell-clause-unfinished : goal.returns-in_err-tell-clause-unfinished
-returns-in_err-tell-clause-unfinished g c =
+pub returns-in_err-remarked-clause-unfinished : goal.returns-in_err-remarked-clause-unfinished
+returns-in_err-remarked-clause-unfinished g c =
     let held = g.F.Files.held c.args.files.now in
     let asked = c.in_ok-config.field-0 in
     let program = subst (λ (a : List ℕ). HasProgram held c.args.wanted c.args.words.now asked.image a) (sym c.deref.ensures.value) c.in_ok-config.ensures.program in
-    handed_up _ c.from_residual-in_err-tell.result _ c.from_residual-in_err-tell.ensures.1
-    (memory_left _ _ _ _ c.in_err-tell.ensures.told
+    handed_up _ c.from_residual-in_err-remarked.result _ c.from_residual-in_err-remarked.ensures.1
+    (memory_left _ _ _ _ c.in_err-remarked.ensures.told
     (has held c.args.wanted c.args.words.now c.args.window asked.config asked.image c.deref.result.now _ c.in-Ok.architecture c.in_ok-config.ensures.config.0 c.in_ok-config.ensures.config.1 program c.in_ok-config.ensures.names
     c.in-Ok.ensures
     _ (all_of _ _ _ c.in_ok-print.ensures.printed)))
 
-pub returns-in_err-tell-clause-spared : goal.returns-in_err-tell-clause-spared
-returns-in_err-tell-clause-spared g c = spared_after _ _ _ _ c.in_ok-config.ensures.stays (spares_wider _ _ _ _ (way_file _ c.args.wanted.scripts) c.keep.ensures.spared)
+pub returns-in_err-remarked-clause-spared : goal.returns-in_err-remarked-clause-spared
+returns-in_err-remarked-clause-spared g c = spared_after _ _ _ _ c.in_ok-config.ensures.stays (spares_wider _ _ _ _ (way_file _ c.args.wanted.scripts) c.keep.ensures.spared)
 
 pub returns-clause-searched : goal.returns-clause-searched
 returns-clause-searched g c =
     let held = g.F.Files.held c.args.files.now in
     let asked = c.in_ok-config.field-0 in
     let program = subst (λ (a : List ℕ). HasProgram held c.args.wanted c.args.words.now asked.image a) (sym c.deref.ensures.value) c.in_ok-config.ensures.program in
-    ok_more _ _ c.judge.result
+    ok_more _ _ c.judge-judgement.result
     (λ judgement is.
     whole held c.args.wanted c.args.words.now c.args.window asked.config asked.image c.deref.result.now _ c.in-Ok.architecture c.in_ok-config.ensures.config.0 c.in_ok-config.ensures.config.1 program c.in_ok-config.ensures.names
     c.in-Ok.ensures
     _ _ (g.F.Files.held c.keep.new.files) judgement _ c.in_ok-print.ensures.printed c.in_ok-keep.ensures.kept (spared_after _ _ _ _ c.in_ok-config.ensures.stays c.keep.ensures.spared) c.in_ok-config.ensures.allowed is.0 is.1)
-    (ok_both _ _ c.judge.result c.judge.ensures.judged c.judge.ensures.whole)
+    (ok_both _ _ c.judge-judgement.result c.judge-judgement.ensures.judged c.judge-judgement.ensures.whole)
 
 pub returns-clause-told : goal.returns-clause-told
-returns-clause-told g c = err_more _ _ c.judge.result (λ fault is. inl (memory_told _ c.args.wanted fault is)) c.judge.ensures.told
+returns-clause-told g c = err_more _ _ c.judge-judgement.result (λ fault is. inl (memory_told _ c.args.wanted fault is)) c.judge-judgement.ensures.told
 
 pub returns-clause-unfinished : goal.returns-clause-unfinished
 returns-clause-unfinished g c =
     let held = g.F.Files.held c.args.files.now in
     let asked = c.in_ok-config.field-0 in
     let program = subst (λ (a : List ℕ). HasProgram held c.args.wanted c.args.words.now asked.image a) (sym c.deref.ensures.value) c.in_ok-config.ensures.program in
-    err_more _ _ c.judge.result
+    err_more _ _ c.judge-judgement.result
     (λ fault is. memory_left fault _ _ _ is
     (has held c.args.wanted c.args.words.now c.args.window asked.config asked.image c.deref.result.now _ c.in-Ok.architecture c.in_ok-config.ensures.config.0 c.in_ok-config.ensures.config.1 program c.in_ok-config.ensures.names
     c.in-Ok.ensures
     _ (all_of _ _ _ c.in_ok-print.ensures.printed)))
-    c.judge.ensures.told
+    c.judge-judgement.ensures.told
 
 pub returns-clause-spared : goal.returns-clause-spared
 returns-clause-spared g c = spared_after _ _ _ _ c.in_ok-config.ensures.stays (spares_wider _ _ _ _ (way_file _ c.args.wanted.scripts) c.keep.ensures.spared)
@@ -118,11 +120,11 @@ pub returns-in_err-keep-clause-untouched : goal.returns-in_err-keep-clause-untou
 returns-in_err-keep-clause-untouched g c =
     handed_up _ c.from_residual-in_err-keep.result _ c.from_residual-in_err-keep.ensures.1 (λ early. absurd (folder_late c.args.wanted.scripts _ c.in_err-keep.ensures.told early))
 
-pub returns-in_err-tell-clause-untouched : goal.returns-in_err-tell-clause-untouched
-returns-in_err-tell-clause-untouched g c = handed_up _ c.from_residual-in_err-tell.result _ c.from_residual-in_err-tell.ensures.1 (λ early. absurd (memory_late _ c.in_err-tell.ensures.told early))
+pub returns-in_err-remarked-clause-untouched : goal.returns-in_err-remarked-clause-untouched
+returns-in_err-remarked-clause-untouched g c = handed_up _ c.from_residual-in_err-remarked.result _ c.from_residual-in_err-remarked.ensures.1 (λ early. absurd (memory_late _ c.in_err-remarked.ensures.told early))
 
 pub returns-clause-untouched : goal.returns-clause-untouched
-returns-clause-untouched g c = err_more _ _ c.judge.result (λ fault is early. absurd (memory_late fault is early)) c.judge.ensures.told
+returns-clause-untouched g c = err_more _ _ c.judge-judgement.result (λ fault is early. absurd (memory_late fault is early)) c.judge-judgement.ensures.told
 
 pub returns-in_err-config-clause-silent : goal.returns-in_err-config-clause-silent
 returns-in_err-config-clause-silent g c = handed_up _ c.from_residual.result _ c.from_residual.ensures.1 (λ early. refl)
@@ -131,13 +133,14 @@ pub returns-in_err-print-clause-silent : goal.returns-in_err-print-clause-silent
 returns-in_err-print-clause-silent g c = handed_up _ c.from_residual-in_err-print.result _ c.from_residual-in_err-print.ensures.1 (λ early. refl)
 
 pub returns-in_err-keep-clause-silent : goal.returns-in_err-keep-clause-silent
-returns-in_err-keep-clause-silent g c = handed_up _ c.from_residual-in_err-keep.result _ c.from_residual-in_err-keep.ensures.1 (λ early. refl)
+returns-in_err-keep-clause-silent g c =
+    handed_up _ c.from_residual-in_err-keep.result _ c.from_residual-in_err-keep.ensures.1 (λ early. absurd (folder_late c.args.wanted.scripts _ c.in_err-keep.ensures.told early))
 
-pub returns-in_err-tell-clause-silent : goal.returns-in_err-tell-clause-silent
-returns-in_err-tell-clause-silent g c = handed_up _ c.from_residual-in_err-tell.result _ c.from_residual-in_err-tell.ensures.1 (λ early. absurd (memory_last _ c.in_err-tell.ensures.told early))
+pub returns-in_err-remarked-clause-silent : goal.returns-in_err-remarked-clause-silent
+returns-in_err-remarked-clause-silent g c = handed_up _ c.from_residual-in_err-remarked.result _ c.from_residual-in_err-remarked.ensures.1 (λ early. absurd (memory_late _ c.in_err-remarked.ensures.told early))
 
 pub returns-clause-silent : goal.returns-clause-silent
-returns-clause-silent g c = err_more _ _ c.judge.result (λ fault is early. absurd (memory_last fault is early)) c.judge.ensures.told
+returns-clause-silent g c = err_more _ _ c.judge-judgement.result (λ fault is early. absurd (memory_late fault is early)) c.judge-judgement.ensures.told
 
 -- what is told of the outcomes that were printed
 pub returns-clause-noted : goal.returns-clause-noted
@@ -145,10 +148,46 @@ returns-clause-noted g c =
     let held = g.F.Files.held c.args.files.now in
     let asked = c.in_ok-config.field-0 in
     let program = subst (λ (a : List ℕ). HasProgram held c.args.wanted c.args.words.now asked.image a) (sym c.deref.ensures.value) c.in_ok-config.ensures.program in
-    let remarked = subst (λ (os : List Outcome). AreRemarked c.args.wanted.scripts os (g.E.Write.contents c.args.err.now) (g.E.Write.contents c.tell.new.err)) c.deref-2.ensures.value c.in_ok-tell.ensures.remarked in
-    ok_more _ _ c.judge.result
+    let remarked = subst (λ (os : List Outcome). AreRemarked c.args.wanted.scripts os (g.E.Write.contents c.args.err.now) (g.E.Write.contents c.tell-remarked.new.err)) c.deref-2.ensures.value c.tell-remarked.ensures.remarked in
+    ok_more _ _ c.judge-judgement.result
     (λ judgement so.
     noted held c.args.wanted c.args.words.now c.args.window asked.config asked.image c.deref.result.now _ c.in-Ok.architecture c.in_ok-config.ensures.config.0 c.in_ok-config.ensures.config.1 program c.in_ok-config.ensures.names
     c.in-Ok.ensures
-    _ _ (g.E.Write.contents c.args.err.now) (g.E.Write.contents c.tell.new.err) (g.E.Write.contents c.judge.new.err) judgement _ c.in_ok-print.ensures.printed remarked c.in_ok-config.ensures.allowed so)
-    c.judge.ensures.noted
+    _ _ (g.E.Write.contents c.args.err.now) (g.E.Write.contents c.tell-remarked.new.err) (g.E.Write.contents c.judge-judgement.new.err) judgement _ c.in_ok-print.ensures.printed remarked c.in_ok-config.ensures.allowed so)
+    c.judge-judgement.ensures.noted
+
+pub returns-in_err-keep-clause-judged_first : goal.returns-in_err-keep-clause-judged_first
+returns-in_err-keep-clause-judged_first g c =
+    let held = g.F.Files.held c.args.files.now in
+    let asked = c.in_ok-config.field-0 in
+    let program = subst (λ (a : List ℕ). HasProgram held c.args.wanted c.args.words.now asked.image a) (sym c.deref.ensures.value) c.in_ok-config.ensures.program in
+    let remarked = subst (λ (os : List Outcome). AreRemarked c.args.wanted.scripts os (g.E.Write.contents c.args.err.now) (g.E.Write.contents c.tell-remarked.new.err)) c.deref-2.ensures.value c.tell-remarked.ensures.remarked in
+    on_err_of c.from_residual-in_err-keep.result (inr
+    (noted held c.args.wanted c.args.words.now c.args.window asked.config asked.image c.deref.result.now _ c.in-Ok.architecture c.in_ok-config.ensures.config.0 c.in_ok-config.ensures.config.1 program c.in_ok-config.ensures.names
+    c.in-Ok.ensures
+    _ _ (g.E.Write.contents c.args.err.now) (g.E.Write.contents c.tell-remarked.new.err) (g.E.Write.contents c.judge-judgement.new.err) NotAllowed _ c.in_ok-print.ensures.printed remarked c.in_ok-config.ensures.allowed
+    (begun_by _ _ _ c.judge-judgement.result c.judge-judgement.ensures.noted c.judge-judgement.ensures.silent)))
+
+pub returns-in_err-remarked-clause-judged_first : goal.returns-in_err-remarked-clause-judged_first
+returns-in_err-remarked-clause-judged_first g c =
+    let held = g.F.Files.held c.args.files.now in
+    let asked = c.in_ok-config.field-0 in
+    let program = subst (λ (a : List ℕ). HasProgram held c.args.wanted c.args.words.now asked.image a) (sym c.deref.ensures.value) c.in_ok-config.ensures.program in
+    let remarked = subst (λ (os : List Outcome). AreRemarked c.args.wanted.scripts os (g.E.Write.contents c.args.err.now) (g.E.Write.contents c.tell-remarked.new.err)) c.deref-2.ensures.value c.tell-remarked.ensures.remarked in
+    on_err_of c.from_residual-in_err-remarked.result (inr
+    (noted held c.args.wanted c.args.words.now c.args.window asked.config asked.image c.deref.result.now _ c.in-Ok.architecture c.in_ok-config.ensures.config.0 c.in_ok-config.ensures.config.1 program c.in_ok-config.ensures.names
+    c.in-Ok.ensures
+    _ _ (g.E.Write.contents c.args.err.now) (g.E.Write.contents c.tell-remarked.new.err) (g.E.Write.contents c.judge-judgement.new.err) NotAllowed _ c.in_ok-print.ensures.printed remarked c.in_ok-config.ensures.allowed
+    (begun_by _ _ _ c.judge-judgement.result c.judge-judgement.ensures.noted c.judge-judgement.ensures.silent)))
+
+pub returns-clause-judged_first : goal.returns-clause-judged_first
+returns-clause-judged_first g c =
+    let held = g.F.Files.held c.args.files.now in
+    let asked = c.in_ok-config.field-0 in
+    let program = subst (λ (a : List ℕ). HasProgram held c.args.wanted c.args.words.now asked.image a) (sym c.deref.ensures.value) c.in_ok-config.ensures.program in
+    let remarked = subst (λ (os : List Outcome). AreRemarked c.args.wanted.scripts os (g.E.Write.contents c.args.err.now) (g.E.Write.contents c.tell-remarked.new.err)) c.deref-2.ensures.value c.tell-remarked.ensures.remarked in
+    on_err_of c.judge-judgement.result (inr
+    (noted held c.args.wanted c.args.words.now c.args.window asked.config asked.image c.deref.result.now _ c.in-Ok.architecture c.in_ok-config.ensures.config.0 c.in_ok-config.ensures.config.1 program c.in_ok-config.ensures.names
+    c.in-Ok.ensures
+    _ _ (g.E.Write.contents c.args.err.now) (g.E.Write.contents c.tell-remarked.new.err) (g.E.Write.contents c.judge-judgement.new.err) NotAllowed _ c.in_ok-print.ensures.printed remarked c.in_ok-config.ensures.allowed
+    (begun_by _ _ _ c.judge-judgement.result c.judge-judgement.ensures.noted c.judge-judgement.ensures.silent)))
