@@ -25,7 +25,10 @@ const SCRIPTS: [(&str, &str); 24] = [
         "a script begins with `rvtl-script 1 HARTS KIB SETS WAYS`, not with `step 0`",
     ),
     ("rvtl-script 1 9 4 4 2\n", "HARTS is 1 to 8, not `9`"),
-    ("rvtl-script 1 1 4 +4 2\n", "SETS is a power of two to 64, not `+4`"),
+    (
+        "rvtl-script 1 1 4 +4 2\n",
+        "SETS is a power of two to 64, not `+4`",
+    ),
     (
         "rvtl-script 1 1 6 4 2\n",
         "KIB is a multiple of 4 from 4 to 1024, not `6`",
