@@ -1,4 +1,4 @@
-//! An exploration, as it is told, kept and judged.
+//! An exploration, as it is told, judged and kept.
 
 ghost use Rattle.std.specs.Prelude.{◌≢◌, length};
 ghost use Rattle.explore_command.specs.Keeping.{AreKept, IsScriptOf};

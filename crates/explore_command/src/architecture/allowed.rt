@@ -1,4 +1,4 @@
-//! What a memory model was found to allow, as it is told, kept and judged.
+//! What a memory model was found to allow, as it is told, judged and kept.
 
 ghost use Rattle.std.specs.Prelude.{◌≢◌, All};
 ghost use Rattle.explore_command.specs.ModelKeeping.{AreWaysKept, HasText, IsWayFile};

@@ -1,4 +1,4 @@
-//! Random runs, as they are told, kept and judged.
+//! Random runs, as they are told, judged and kept.
 
 ghost use Rattle.std.specs.Prelude.{◌≤◌, length};
 ghost use Rattle.exploration_text.specs.Sampling.{sampled_text};
