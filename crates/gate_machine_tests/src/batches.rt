@@ -25,7 +25,7 @@ const SPIN: [u32; 1] = [0x0000006f];
 const STEP: Event = Event::Step { hart: 0 };
 
 /// What a machine is asked.
-#[derive(Clone, Copy)]
+#[derive(Clone, Copy, Debug)]
 enum Call {
     Apply(Event),
     /// To adopt the batch as this hart's.

@@ -65,7 +65,7 @@ const ROW_18_OUTCOMES: [Outcome; 6] = [
 ];
 
 /// What a worker does next.
-#[derive(Clone, Copy)]
+#[derive(Clone, Copy, Debug)]
 enum Call {
     Apply(Event),
     /// What a turn picks is applied.

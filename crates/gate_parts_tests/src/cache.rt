@@ -22,7 +22,7 @@ const ONE: LineData = LineData::Bytes16([1, 0, 0, 0, 0, 0, 0, 0, 0, 0, 0, 0, 0, 
 const TWO: LineData = LineData::Bytes16([2, 0, 0, 0, 0, 0, 0, 0, 0, 0, 0, 0, 0, 0, 0, 0]);
 
 /// A call of a cache.
-#[derive(Clone, Copy)]
+#[derive(Clone, Copy, Debug)]
 enum Call {
     Want(u32, Grow),
     Grant(u32, Cap, Option<LineData>),

@@ -14,7 +14,7 @@ const X: u32 = 16;
 const Y: u32 = 32;
 
 /// A message that the manager takes, and what it is to send.
-#[derive(Clone, Copy)]
+#[derive(Clone, Copy, Debug)]
 enum Step {
     /// An Acquire that is granted.
     Granted(u32, u8, Grow, Cap, bool),
