@@ -24,7 +24,7 @@ pub enum Unshown {
     #[error("not with --sample: leave out one of them")]
     Elsewhere,
     /// It is no number below 2^32, and the image has no such symbol.
-    #[error("no such symbol in IMAGE: name another (nm lists them) or give an address")]
+    #[error("no such symbol in IMAGE, and no number below 2^32: name another (nm lists them, none where -s linked it) or give an address")]
     NoSymbol,
     /// No aligned word of memory lies at its address.
     #[error("no aligned word of memory: choose a multiple of 4 from 0x80000000 to the end of --memory")]
@@ -77,12 +77,12 @@ pub enum Fault<'a> {
         error: CheckError,
     },
     /// A picture would have more than 400 rows or bars, or more than 65,535 lines of text.
-    #[error("rvtl: {}: too many rows to draw (400 at most): choose fewer by --line, or by a shorter script", Escaped(*.file))]
+    #[error("rvtl: {}: too much to draw (400 rows, or 65535 lines of text, at most): choose less by --line, or by a shorter script", Escaped(*.file))]
     TooManyRows {
         file: &'a str,
     },
     /// What was given as an address is no number below 2^32, in decimal or behind 0x in hexadecimal.
-    #[error("rvtl: --line {}: no address", Escaped(*.word))]
+    #[error("rvtl: --line {}: no address: give one in decimal, or in hexadecimal behind 0x", Escaped(*.word))]
     BadAddress {
         word: &'a str,
     },

@@ -91,7 +91,8 @@ pub(crate) const CHART_HELP: &str =
     "The picture is an SVG file on standard output: time goes down, with a row for each event that changed the
 machine, and lanes for each hart's core and cache and for the manager of memory. Core lanes show what the
 hart retired, cache lanes the permission held for each line, and arrows the messages, from where they were
-sent to where they arrived. At most 400 rows are drawn.
+sent to where they arrived. A script that makes more than 400 rows, or more than 65,535 lines of text, is not
+drawn: --line has fewer.
 
 Example: rvtl chart --raw examples/load.bin examples/load.script > load.svg";
 
@@ -102,13 +103,13 @@ pub(crate) const RUN_HELP: &str =
     "Each hart runs in a thread of its own. When all have halted, or after so many events, the events that
 changed the machine are written into the journal, the trace goes to standard output, and how each
 hart ended (run, stop CODE or exit CODE) and what it put out go to standard error. replay of the
-journal, with the same --raw and --model, prints the same trace.
+journal, with the same --raw and --model, prints the same trace; replay --help has the CODEs of stops.
 
 Example: rvtl run --raw --journal exit.journal examples/exit.bin";
 
 pub(crate) const EXPLORE_HELP: &str =
-    "Prints an outcome a line, numbered: of each hart how it ended (stop CODE or exit CODE) and what it put
-out. The order of the lines is fixed. The last line is one of
+    "Prints an outcome a line, numbered: of each hart how it ended (stop CODE, by replay --help, or exit CODE)
+and what it put out. The order of the lines is fixed. The last line is one of
   complete: N outcomes, M states      no schedule of the machine brings the program to another end
   incomplete: LIMIT states met        the outcomes are some of those that there are
   incomplete: out of memory           so are they here, and the status is 4
@@ -120,10 +121,12 @@ With --scripts, events that an outcome doesn't need are left out of its script. 
 are played to find them, and 40,000,000 for all outcomes (of random runs, 1,000,000 for each).
 The machine carries loads out as they retire, so that what a missing fence between two loads allows is
 not among the outcomes. With --architecture it is: behind each outcome stands whether this machine shows
-it, or the memory model alone allows it; its words are those behind all operations. The last line is
+it, or the memory model alone allows it; its words are those behind all operations. It doesn't look for states
+from which no schedule ends. The last line is
   searched: N outcomes, M states, no window over W (not proved complete)
-or incomplete: and the limit that was met. With --sample, random runs are made and counted instead, and
-the last line is sampled: RUNS runs, not complete; --architecture or --show don't go with it.
+or incomplete: and the limit that was met. With --sample, random runs are made and counted instead, each of
+at most 1,000,000 tried events, and the last line is sampled: RUNS runs, not complete; --architecture or
+--show don't go with it.
 --seed says nothing without --sample, --window nothing without --architecture, --states nothing with --sample.
 
 Example: rvtl explore --harts 2 examples/dekker.elf";

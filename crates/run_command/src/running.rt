@@ -14,7 +14,7 @@ ghost use Rattle.trace_text.specs.TraceLimits.{IsTrace};
 ghost use Rattle.trace_text.specs.Traces.{text as trace_text};
 
 use command_files::{
-    Fault, Files, image_in, named_config, out_of_limits, print_ends, script_of, unmade,
+    Fault, Files, image_in, named_config, out_of_limits, print_ends, remark, script_of, unmade,
 };
 use command_settings::Run;
 use host_threads::{Gate, Report, RunError, run};
@@ -67,8 +67,8 @@ impl<P: Progress> Gate for Watch<'_, P> {
 }
 
 /// Judges the machine's size, reads the image, runs it, writes the journal, and then prints the trace on
-/// `out` and each hart's end on `err`. Where the journal is not written nothing is printed. While it runs,
-/// `progress` is told how far it is.
+/// `out` and each hart's end on `err`. Where the journal is not written nothing is printed. A journal of the
+/// image's own name is refused before the run. While it runs, `progress` is told how far it is.
 pub fn run_files<'a, R: Threads + Wait + Sync, F: Files, O: Write, E: Write, P: Progress + Sync>(
     rt: &R,
     alloc: Global,
@@ -98,6 +98,7 @@ pub fn run_files<'a, R: Threads + Wait + Sync, F: Files, O: Write, E: Write, P: 
         wanted.image,
         wanted.machine.memory,
     )?;
+    spare_image(alloc, files, wanted.image, wanted.journal)?;
     let limit = u64::from(wanted.limit);
     let watch = Watch::new(progress);
     let report = match run(rt, alloc, image, config, limit, &watch) {
@@ -119,6 +120,27 @@ pub fn run_files<'a, R: Threads + Wait + Sync, F: Files, O: Write, E: Write, P: 
     print(&trace, out)?;
     // Standard error has no other place to tell that it takes no more.
     let _ = print_ends(trace.statuses(), outputs.as_slice(), err);
+    Ok(())
+}
+
+/// Refuses a journal that would be written over the program.
+fn spare_image<'a, F: Files>(
+    alloc: Global,
+    files: &mut F,
+    image: &str,
+    journal: &'a str,
+) -> Result<(), Fault<'a>>
+    ensures told { IfErr result (λ fault. fault ≡ Fault.CannotMake journal.entry) }
+    ensures stays { F.held files.new ≡ F.held files.old }
+{
+    if journal == image {
+        remark(
+            alloc,
+            files,
+            "this is the program: name another file for --journal",
+        );
+        return Err(Fault::CannotMake { file: journal });
+    }
     Ok(())
 }
 

@@ -2,7 +2,7 @@
 
 use anyhow::{Context, Result};
 use command_files::Files;
-use std::alloc::AllocError;
+use std::alloc::{AllocError, Global};
 use std::fs;
 use std::io::{self, ErrorKind, Read};
 use std::rt::Files as System;
@@ -15,11 +15,10 @@ struct Held {
     is_broken: bool,
 }
 
-/// Files in memory, the newest of which counts where several have a name, and else the system's. What is written
-/// stays in memory.
+/// Files in memory, the newest of which counts where several have a name.
 #[derive(Drop)]
-pub struct Folder<'r, R> {
-    rt: &'r R,
+pub struct Folder {
+    alloc: Global,
     held: Vec<Held>,
     /// How many of them the last command found.
     found: usize,
@@ -30,12 +29,12 @@ pub struct Folder<'r, R> {
     pub remark: Option<String>,
 }
 
-impl<'r, R: System + AllocGlobal> Folder<'r, R> {
+impl Folder {
     /// No file is in memory.
-    pub fn new(rt: &'r R) -> Folder<'r, R> {
+    pub fn new(alloc: Global) -> Folder {
         Folder {
-            rt,
-            held: Vec::new(rt.alloc()),
+            alloc,
+            held: Vec::new(alloc),
             found: 0,
             writes: 0,
             is_full: false,
@@ -56,10 +55,9 @@ impl<'r, R: System + AllocGlobal> Folder<'r, R> {
     }
 
     fn hold(&mut self, name: &str, bytes: &[u8], is_broken: bool) -> Result<(), AllocError> {
-        let alloc = self.rt.alloc();
         self.held.push(Held {
-            name: String::from_str(alloc, name)?,
-            bytes: bytes.to_vec(alloc)?,
+            name: String::from_str(self.alloc, name)?,
+            bytes: bytes.to_vec(self.alloc)?,
             is_broken,
         })?;
         Ok(())
@@ -87,6 +85,22 @@ impl<'r, R: System + AllocGlobal> Folder<'r, R> {
         found
     }
 
+    fn reader(&self, name: &str) -> Result<Option<Reader>, AllocError> {
+        match self.find(name) {
+            Some(file) => Ok(Some(Reader::of(file.bytes.clone()?, file.is_broken))),
+            None => Ok(None),
+        }
+    }
+
+    fn write(&mut self, name: &str, bytes: &[u8]) -> io::Result<()> {
+        if self.is_full {
+            return Err(io::Error::from(ErrorKind::StorageFull));
+        }
+        self.writes = self.writes.saturating_add(1);
+        self.hold(name, bytes, false)?;
+        Ok(())
+    }
+
     /// A command comes. Where the files are full it can write none.
     pub fn begin_command(&mut self, is_full: bool) {
         self.found = self.held.len();
@@ -102,32 +116,29 @@ impl<'r, R: System + AllocGlobal> Folder<'r, R> {
     }
 }
 
-impl<R: System + AllocGlobal> Files for Folder<'_, R> {
+/// The files of a folder, and the system's where it has none of the name. What is written stays in memory.
+#[derive(Drop)]
+pub struct Before<'a, R> {
+    pub folder: &'a mut Folder,
+    pub rt: &'a R,
+}
+
+impl<R: System + AllocGlobal> Files for Before<'_, R> {
     type Reader = Reader;
 
     fn open(&mut self, name: &str) -> io::Result<Reader> {
-        let (bytes, is_broken) = match self.find(name) {
-            Some(file) => (file.bytes.clone()?, file.is_broken),
-            None => (fs::read(self.rt, name)?, false),
-        };
-        Ok(Reader {
-            bytes,
-            place: 0,
-            is_broken,
-        })
+        match self.folder.reader(name)? {
+            Some(reader) => Ok(reader),
+            None => Ok(Reader::of(fs::read(self.rt, name)?, false)),
+        }
     }
 
     fn write(&mut self, name: &str, bytes: &[u8]) -> io::Result<()> {
-        if self.is_full {
-            return Err(io::Error::from(ErrorKind::StorageFull));
-        }
-        self.writes = self.writes.saturating_add(1);
-        self.hold(name, bytes, false)?;
-        Ok(())
+        self.folder.write(name, bytes)
     }
 
     fn remark(&mut self, remark: String) {
-        self.remark = Some(remark);
+        self.folder.remark = Some(remark);
     }
 }
 
@@ -137,6 +148,16 @@ pub struct Reader {
     bytes: Vec<u8>,
     place: usize,
     is_broken: bool,
+}
+
+impl Reader {
+    fn of(bytes: Vec<u8>, is_broken: bool) -> Reader {
+        Reader {
+            bytes,
+            place: 0,
+            is_broken,
+        }
+    }
 }
 
 impl Read for Reader {

@@ -8,6 +8,17 @@ use std::io::{self, Write};
 use std::sync::Wait;
 use std::thread::Threads;
 
+/// Runs the command line, which prints to `out` and tells to `err`; its status.
+pub fn run<R: Threads + Wait + Sync + AllocGlobal, F: Files, W: Write>(
+    rt: &R,
+    words: &[&str],
+    files: &mut F,
+    out: &mut W,
+    err: &mut Vec<u8>,
+) -> u8 {
+    run_line(rt, rt.alloc(), words, files, out, err, &Silent)
+}
+
 /// What the command line printed, and its status.
 #[derive(Drop)]
 pub struct Said {
@@ -35,15 +46,7 @@ impl Said {
         let alloc = rt.alloc();
         self.out = Vec::new(alloc);
         self.err = Vec::new(alloc);
-        self.status = run_line(
-            rt,
-            alloc,
-            words,
-            files,
-            &mut self.out,
-            &mut self.err,
-            &Silent,
-        );
+        self.status = run(rt, words, files, &mut self.out, &mut self.err);
     }
 
     /// Runs the command line over the system's files.

@@ -2,7 +2,7 @@
 //! over each. A run may still succeed, or judge what a trace still says; any other prints nothing and tells
 //! why in one line.
 
-use super::folder::Folder;
+use super::folder::{Before, Folder};
 use super::said::Said;
 use super::spoiling::{cut, reset};
 use anyhow::{Result, bail, ensure};
@@ -126,9 +126,13 @@ fn run_over<R: Files + Threads + Wait + Sync + AllocGlobal>(
     other: File<'_>,
     said: &mut Said,
 ) -> Result<()> {
-    let mut files = Folder::new(rt);
-    files.put(other.name, other.bytes)?;
-    files.put(name, bytes)?;
+    let mut folder = Folder::new(rt.alloc());
+    folder.put(other.name, other.bytes)?;
+    folder.put(name, bytes)?;
+    let mut files = Before {
+        folder: &mut folder,
+        rt,
+    };
     said.ask(rt, words, &mut files);
     ends_well(said)
 }

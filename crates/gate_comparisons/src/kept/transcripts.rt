@@ -73,19 +73,20 @@ pub fn play_all<R: Files + Threads + Wait + Sync + AllocGlobal, W: Write>(
 fn play<R: Files + Threads + Wait + Sync + AllocGlobal>(rt: &R, name: &str) -> Result<usize> {
     let path = format!(in rt.alloc(); "transcripts/{name}.transcript")?;
     let text = fs::read_to_string(rt, path.as_str())?;
-    play_lines(name, &text, &mut Stage::new(rt))
+    play_lines(rt, name, &text)
 }
 
 fn play_lines<R: Files + Threads + Wait + Sync + AllocGlobal>(
+    rt: &R,
     name: &str,
     text: &str,
-    stage: &mut Stage<'_, R>,
 ) -> Result<usize> {
+    let mut stage = Stage::new(rt.alloc());
     let mut number = 0usize;
     for line in text.lines() {
         number = number.saturating_add(1);
         stage
-            .play(line)
+            .play(rt, line)
             .context(format_args!("{name}: line {number}: {line}"))?;
     }
     stage

@@ -1,6 +1,6 @@
 //! The scripts that lead the program `lost_update.elf` to the loss of an update.
 
-use crate::kept::folder::Folder;
+use crate::kept::folder::{Before, Folder};
 use crate::kept::said::Said;
 use anyhow::{Result, ensure};
 use std::alloc::{AllocError, Global};
@@ -12,7 +12,7 @@ use std::thread::Threads;
 /// The script leads there, and doesn't where any one of its events is left out.
 pub fn needs_each<R: Files + Threads + Wait + Sync + AllocGlobal>(
     rt: &R,
-    files: &mut Folder<'_, R>,
+    files: &mut Folder,
     script: &str,
 ) -> Result<()> {
     ensure!(loses_an_update(rt, files, script)?, "no update is lost");
@@ -29,13 +29,13 @@ pub fn needs_each<R: Files + Threads + Wait + Sync + AllocGlobal>(
 /// Whether the script brings both harts to their ends, behind which both stores have left, and both loads read 0.
 fn loses_an_update<R: Files + Threads + Wait + Sync + AllocGlobal>(
     rt: &R,
-    files: &mut Folder<'_, R>,
+    files: &mut Folder,
     script: &str,
 ) -> Result<bool> {
     let mut said = Said::nothing(rt.alloc());
     files.put("script", script.as_bytes())?;
     let words = ["rvtl", "replay", "lost_update.elf", "script"];
-    said.ask(rt, &words, files);
+    said.ask(rt, &words, &mut Before { folder: files, rt });
     has_lost_an_update(&said)
 }
 

@@ -4,11 +4,10 @@ use super::breaking::Breaking;
 use super::line::{Line, add_text, halves, unescaped, words_of};
 use super::lost_update::needs_each;
 use super::stream::{Stream, exchanged};
-use crate::kept::folder::Folder;
-use crate::kept::said::Said;
+use crate::kept::folder::{Before, Folder};
+use crate::kept::said::{Said, run};
 use anyhow::{Context, Result, bail, ensure};
-use command_line::run_line;
-use progress_line::Silent;
+use std::alloc::Global;
 use std::mem::swap;
 use std::rt::Files;
 use std::str::from_utf8;
@@ -37,9 +36,9 @@ impl Told {
 
 /// The files, the last command and what is told of it, and what it and the one before said.
 #[derive(Drop)]
-pub struct Stage<'r, R> {
-    rt: &'r R,
-    files: Folder<'r, R>,
+pub struct Stage {
+    alloc: Global,
+    files: Folder,
     asked: String,
     told: Told,
     said: Said,
@@ -48,62 +47,88 @@ pub struct Stage<'r, R> {
     pub commands: usize,
 }
 
-impl<'r, R: Files + Threads + Wait + Sync + AllocGlobal> Stage<'r, R> {
+impl Stage {
     /// There was no command yet, which is told.
-    pub fn new(rt: &'r R) -> Stage<'r, R> {
+    pub fn new(alloc: Global) -> Stage {
         Stage {
-            rt,
-            files: Folder::new(rt),
-            asked: String::new(rt.alloc()),
+            alloc,
+            files: Folder::new(alloc),
+            asked: String::new(alloc),
             told: Told {
                 has_status: true,
                 ..Told::nothing()
             },
-            said: Said::nothing(rt.alloc()),
-            before: Said::nothing(rt.alloc()),
+            said: Said::nothing(alloc),
+            before: Said::nothing(alloc),
             commands: 0,
         }
     }
 
     /// Plays a line.
-    pub fn play(&mut self, line: &str) -> Result<()> {
+    pub fn play<R: Files + Threads + Wait + Sync + AllocGlobal>(
+        &mut self,
+        rt: &R,
+        line: &str,
+    ) -> Result<()> {
         let Line { sign, mark, text } = Line::of(line);
+        match sign {
+            '$' => self.ask(rt, mark, text),
+            '%' => self.interrupt(rt, mark, text),
+            '/' => self.needs_each(rt, text),
+            _ => self.note(sign, mark, text),
+        }
+    }
+
+    /// Takes a line for which no command runs.
+    fn note(&mut self, sign: char, mark: char, text: &str) -> Result<()> {
         match sign {
             '#' => Ok(()),
             '+' => self.files.begin(text, mark == '!'),
             '|' if mark == '<' => self.add_file(text),
-            '|' => add_text(self.rt.alloc(), self.files.newest()?, mark, text),
+            '|' => add_text(self.alloc, self.files.newest()?, mark, text),
             '~' => self.exchange(text),
-            '$' => self.ask(mark, text),
             '<' => self.show(text),
             '@' => self.files.put(text, &self.said.out),
-            '%' => self.interrupt(mark, text),
-            '/' => self.needs_each(text),
             _ => self.tell(sign, mark, text),
         }
     }
 
     /// Adds another file's bytes to the file that began last.
     fn add_file(&mut self, name: &str) -> Result<()> {
-        let bytes = self.files.bytes(name)?.to_vec(self.rt.alloc())?;
+        let bytes = self.files.bytes(name)?.to_vec(self.alloc)?;
         self.files.newest()?.extend_from_slice(&bytes)?;
         Ok(())
     }
 
     fn exchange(&mut self, names: &str) -> Result<()> {
         let (name, other) = halves(names);
-        let made = exchanged(self.rt.alloc(), self.files.bytes(other)?)?;
+        let made = exchanged(self.alloc, self.files.bytes(other)?)?;
         self.files.put(name, made.as_bytes())
     }
 
     /// Runs a command.
-    fn ask(&mut self, mark: char, text: &str) -> Result<()> {
+    fn ask<R: Files + Threads + Wait + Sync + AllocGlobal>(
+        &mut self,
+        rt: &R,
+        mark: char,
+        text: &str,
+    ) -> Result<()> {
+        self.begin_command(mark, text)?;
+        let words = words_of(self.alloc, &self.asked)?;
+        let mut files = Before {
+            folder: &mut self.files,
+            rt,
+        };
+        self.said.ask(rt, &words, &mut files);
+        Ok(())
+    }
+
+    /// A command comes.
+    fn begin_command(&mut self, mark: char, text: &str) -> Result<()> {
         self.go_on()?;
         self.commands = self.commands.saturating_add(1);
-        self.asked = unescaped(self.rt.alloc(), text)?;
+        self.asked = unescaped(self.alloc, text)?;
         self.files.begin_command(mark == '-');
-        let words = words_of(self.rt.alloc(), &self.asked)?;
-        self.said.ask(self.rt, &words, &mut self.files);
         Ok(())
     }
 
@@ -111,8 +136,8 @@ impl<'r, R: Files + Threads + Wait + Sync + AllocGlobal> Stage<'r, R> {
     fn show(&mut self, name: &str) -> Result<()> {
         self.go_on()?;
         self.files.begin_command(false);
-        self.said = Said::nothing(self.rt.alloc());
-        self.said.out = self.files.bytes(name)?.to_vec(self.rt.alloc())?;
+        self.said = Said::nothing(self.alloc);
+        self.said.out = self.files.bytes(name)?.to_vec(self.alloc)?;
         self.told.has_status = true;
         Ok(())
     }
@@ -167,12 +192,12 @@ impl<'r, R: Files + Threads + Wait + Sync + AllocGlobal> Stage<'r, R> {
     }
 
     fn tell_out(&mut self, mark: char, text: &str) -> Result<()> {
-        self.told.out = self.out().tell(self.rt.alloc(), mark, text)?;
+        self.told.out = self.out().tell(self.alloc, mark, text)?;
         Ok(())
     }
 
     fn tell_err(&mut self, mark: char, text: &str) -> Result<()> {
-        self.told.err = self.err().tell(self.rt.alloc(), mark, text)?;
+        self.told.err = self.err().tell(self.alloc, mark, text)?;
         Ok(())
     }
 
@@ -199,30 +224,43 @@ impl<'r, R: Files + Threads + Wait + Sync + AllocGlobal> Stage<'r, R> {
         Ok(())
     }
 
-    fn needs_each(&mut self, name: &str) -> Result<()> {
-        let script = self.files.bytes(name)?.to_vec(self.rt.alloc())?;
-        needs_each(self.rt, &mut self.files, from_utf8(&script)?)
+    fn needs_each<R: Files + Threads + Wait + Sync + AllocGlobal>(
+        &mut self,
+        rt: &R,
+        name: &str,
+    ) -> Result<()> {
+        let script = self.files.bytes(name)?.to_vec(self.alloc)?;
+        needs_each(rt, &mut self.files, from_utf8(&script)?)
     }
 
     /// Runs the last command again, over a standard output that breaks.
-    fn interrupt(&mut self, mark: char, text: &str) -> Result<()> {
+    fn interrupt<R: Files + Threads + Wait + Sync + AllocGlobal>(
+        &mut self,
+        rt: &R,
+        mark: char,
+        text: &str,
+    ) -> Result<()> {
         match mark {
             '*' => {
                 for room in 0..self.said.out.len() {
-                    self.break_at(Some(room))?;
+                    self.break_at(rt, Some(room))?;
                 }
                 Ok(())
             }
-            '-' => self.break_at(Some(text.parse::<usize>()?)),
-            '.' => self.break_at(None),
+            '-' => self.break_at(rt, Some(text.parse::<usize>()?)),
+            '.' => self.break_at(rt, None),
             _ => bail!("no such break"),
         }
     }
 
     /// The bytes that it takes are the first ones, and the program ends there: no hart is told of.
-    fn break_at(&mut self, room: Option<usize>) -> Result<()> {
-        let mut out = Breaking::new(self.rt.alloc(), room);
-        self.repeat(&mut out)
+    fn break_at<R: Files + Threads + Wait + Sync + AllocGlobal>(
+        &mut self,
+        rt: &R,
+        room: Option<usize>,
+    ) -> Result<()> {
+        let mut out = Breaking::new(self.alloc, room);
+        self.repeat(rt, &mut out)
             .context(format_args!("where it takes {room:?} bytes"))?;
         let first = self.said.out.get(..room.unwrap_or(self.said.out.len()));
         let are_first = first == Some(out.taken.as_slice());
@@ -230,13 +268,19 @@ impl<'r, R: Files + Threads + Wait + Sync + AllocGlobal> Stage<'r, R> {
         Ok(())
     }
 
-    fn repeat(&mut self, out: &mut Breaking) -> Result<()> {
-        let alloc = self.rt.alloc();
-        let mut err = Vec::new(alloc);
-        let words = words_of(alloc, &self.asked)?;
+    fn repeat<R: Files + Threads + Wait + Sync + AllocGlobal>(
+        &mut self,
+        rt: &R,
+        out: &mut Breaking,
+    ) -> Result<()> {
+        let mut err = Vec::new(self.alloc);
+        let words = words_of(self.alloc, &self.asked)?;
         self.files.repeat_command();
-        let files = &mut self.files;
-        let status = run_line(self.rt, alloc, &words, files, out, &mut err, &Silent);
+        let mut files = Before {
+            folder: &mut self.files,
+            rt,
+        };
+        let status = run(rt, &words, &mut files, out, &mut err);
         let has_told = err.as_slice() == b"rvtl: cannot write\n".as_slice();
         ensure!(
             status == 1 && has_told,

@@ -99,7 +99,7 @@ returns-in_err-print-clause-unfinished g c =
     }))
 
 pub returns-in_err-print-clause-spared : goal.returns-in_err-print-clause-spared
-returns-in_err-print-clause-spared g c = λ other another. c.keep.ensures.others other another ∙ ap (λ (h : Contents). h other) c.in_ok-image.ensures.stays
+returns-in_err-print-clause-spared g c = λ other another. c.keep.ensures.others other another ∙ ap (λ (h : Contents). h other) (c.spare_image.ensures.stays ∙ c.in_ok-image.ensures.stays)
 
 pub returns-clause-ran : goal.returns-clause-ran
 returns-clause-ran g c =
@@ -144,7 +144,7 @@ returns-clause-ends g c =
     }
 
 pub returns-clause-spared : goal.returns-clause-spared
-returns-clause-spared g c = λ other another. c.keep.ensures.others other another ∙ ap (λ (h : Contents). h other) c.in_ok-image.ensures.stays
+returns-clause-spared g c = λ other another. c.keep.ensures.others other another ∙ ap (λ (h : Contents). h other) (c.spare_image.ensures.stays ∙ c.in_ok-image.ensures.stays)
 
 pub returns-in_err-print-clause-untouched : goal.returns-in_err-print-clause-untouched
 returns-in_err-print-clause-untouched g c =
