@@ -1,7 +1,9 @@
 //! What is wrong with a script's first line.
 
 use crate::field::Field;
+use crate::flaw::Flaw;
 use crate::lines::split_once;
+use crate::number::{is_padded, number_of};
 use crate::quoted::Quoted;
 use std::fmt::{self, Display, Formatter};
 
@@ -69,6 +71,7 @@ fn fields<W: fmt::Write>(
         let (word, behind) = split_once(later, b' ');
         match number_of(word) {
             Some(number) if field.takes(number) => rest = behind,
+            _ if is_padded(word) => return write!(f, "{}", Flaw::Padded),
             _ => {
                 return write!(
                     f,
@@ -84,12 +87,4 @@ fn fields<W: fmt::Write>(
         Some(more) => write!(f, "no further number is due: {}", Quoted(more)),
         None => f.write_str(otherwise),
     }
-}
-
-// A number without a sign or leading zeros, up to 9999.
-fn number_of(word: &[u8]) -> Option<u32> {
-    if word.len() > 4 || word.starts_with(b"+") || (word.len() > 1 && word.starts_with(b"0")) {
-        return None;
-    }
-    std::str::from_utf8(word).ok()?.parse().ok()
 }

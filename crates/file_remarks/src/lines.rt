@@ -27,6 +27,9 @@ pub(crate) fn first_word(line: &[u8]) -> &[u8] {
     word
 }
 
+/// What is said of a line that no line feed ends.
+pub(crate) const UNENDED: &str = "the line has no line feed: the file ends within it";
+
 /// What blanks, or bytes that can't be seen, a line has that no line may have.
 pub(crate) fn blemish_of(line: &[u8]) -> Option<&'static str> {
     if line.is_empty() {

@@ -1,8 +1,10 @@
 //! What is wrong with a script.
 
+use crate::form::{Form, FormRemark};
 use crate::header::HeaderRemark;
 use crate::kind::Kind;
-use crate::lines::{blemish_of, first_word, line_of};
+use crate::lines::{UNENDED, blemish_of, first_word, line_of};
+use crate::machine::Machine;
 use crate::quoted::Quoted;
 use std::fmt::{self, Display, Formatter};
 use trace_text::{TextCode, TextError};
@@ -23,14 +25,14 @@ impl Display for ScriptRemark<'_> {
             Some(kind) => return write!(f, "this is {kind}, and a script is wanted"),
         }
         if self.error.code == TextCode::End {
-            return f.write_str("the line has no line feed: the file ends within it");
+            return f.write_str(UNENDED);
         }
         if let Some(blemish) = blemish_of(line) {
             return f.write_str(blemish);
         }
         match self.error.code {
             TextCode::Header => write!(f, "{}", HeaderRemark(line)),
-            TextCode::Fields => write!(f, "{} is wanted, not {}", form_of(line), Quoted(line)),
+            TextCode::Fields => write!(f, "{}", misformed(self.bytes, line)),
             _ => write!(
                 f,
                 "no event begins with {}: they are step, drain, evict, deliver and local",
@@ -40,18 +42,30 @@ impl Display for ScriptRemark<'_> {
     }
 }
 
+// What is wrong with an event of a script that isn't written as its first word says.
+fn misformed<'a>(bytes: &'a [u8], line: &'a [u8]) -> FormRemark<'a> {
+    let sizes = line_of(bytes, 1);
+    FormRemark {
+        form: form_of(line),
+        line,
+        machine: Machine::said("script", sizes, [2, 3, 6]),
+        sizes,
+    }
+}
+
 // How the event is written whose word stands first on the line.
-fn form_of(line: &[u8]) -> &'static str {
-    let word = first_word(line);
-    if word == b"step".as_slice() {
-        "`step HART`"
-    } else if word == b"drain".as_slice() {
-        "`drain HART ADDRESS`, with an address of 8 lower-case digits such as 0x80000abc,"
-    } else if word == b"evict".as_slice() {
-        "`evict HART ADDRESS`, with an address of 8 lower-case digits such as 0x80000ab0,"
-    } else if word == b"deliver".as_slice() {
-        "`deliver CHANNEL HART`, with a channel from A to E,"
-    } else {
-        "`local HART COUNT`"
+fn form_of(line: &[u8]) -> Form {
+    match first_word(line) {
+        b"step" => Form::plain("step HART"),
+        b"drain" => Form::noted(
+            "drain HART ADDRESS",
+            ", with an address of 8 lower-case digits such as 0x80000abc,",
+        ),
+        b"evict" => Form::noted(
+            "evict HART ADDRESS",
+            ", with an address of 8 lower-case digits such as 0x80000ab0,",
+        ),
+        b"deliver" => Form::noted("deliver CHANNEL HART", ", with a channel from A to E,"),
+        _ => Form::noted("local HART COUNT", ", with a count of 1 to 256,"),
     }
 }

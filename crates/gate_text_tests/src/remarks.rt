@@ -14,7 +14,7 @@ use std::test::Fail;
 use trace_text::{read_script, read_trace};
 
 /// Scripts that are refused, and what is remarked of each.
-const SCRIPTS: [(&str, &str); 24] = [
+const SCRIPTS: [(&str, &str); 36] = [
     ("", "this is an empty file, and a script is wanted"),
     (
         "rvtl-trace 1\nT 1 4 0x80000000\n",
@@ -27,7 +27,7 @@ const SCRIPTS: [(&str, &str); 24] = [
     ("rvtl-script 1 9 4 4 2\n", "HARTS is 1 to 8, not `9`"),
     (
         "rvtl-script 1 1 4 +4 2\n",
-        "SETS is a power of two to 64, not `+4`",
+        "numbers have no sign, and no zero before them",
     ),
     (
         "rvtl-script 1 1 6 4 2\n",
@@ -37,7 +37,11 @@ const SCRIPTS: [(&str, &str); 24] = [
         "rvtl-script 1 1 4 3 2\n",
         "SETS is a power of two to 64, not `3`",
     ),
-    ("rvtl-script 1 1 4 4 02\n", "WAYS is 1 to 4, not `02`"),
+    (
+        "rvtl-script 1 1 4 4 02\n",
+        "numbers have no sign, and no zero before them",
+    ),
+    ("rvtl-script 1 1 4 4 5\n", "WAYS is 1 to 4, not `5`"),
     ("rvtl-script 1 1 4 4\n", "WAYS is 1 to 4, and is missing"),
     (
         "rvtl-script 1 1 4 4 2 16\n",
@@ -59,7 +63,7 @@ const SCRIPTS: [(&str, &str); 24] = [
     ),
     (
         "rvtl-script 1 1 4 4 2\nstep 0\nstep 00\n",
-        "`step HART` is wanted, not `step 00`",
+        "numbers have no sign, and no zero before them",
     ),
     (
         "rvtl-script 1 1 4 4 2\nstep 0\r\n",
@@ -88,7 +92,51 @@ const SCRIPTS: [(&str, &str); 24] = [
     ),
     (
         "rvtl-script 1 1 4 4 2\ndrain 0 0x8000000A\n",
-        "`drain HART ADDRESS`, with an address of 8 lower-case digits such as 0x80000abc, is wanted, not `drain 0 0x8000000A`",
+        "0x and 8 lower-case digits are wanted, not `0x8000000A`",
+    ),
+    (
+        "rvtl-script 1 1 4 4 2\nstep 0\nstep -1\n",
+        "numbers have no sign, and no zero before them",
+    ),
+    (
+        "rvtl-script 1 1 4 4 2\nlocal 0 +5\n",
+        "numbers have no sign, and no zero before them",
+    ),
+    (
+        "rvtl-script 1 1 4 4 2\ndeliver A 01\n",
+        "numbers have no sign, and no zero before them",
+    ),
+    (
+        "rvtl-script 1 1 4 4 2\nstep x\n",
+        "`step HART` is wanted, not `step x`",
+    ),
+    (
+        "rvtl-script 1 1 4 4 2\nstep 256\n",
+        "no hart 256: the script's only hart is 0, by `rvtl-script 1 1 4 4 2`",
+    ),
+    (
+        "rvtl-script 2 6 4 4 2 64\nstep 300\n",
+        "no hart 300: the script's harts are 0 to 5, by `rvtl-script 2 6 4 4 2 64`",
+    ),
+    (
+        "rvtl-script 1 1 4 4 2\ndrain 0 2147483648\n",
+        "`drain HART ADDRESS`, with an address of 8 lower-case digits such as 0x80000abc, is wanted, not `drain 0 2147483648`",
+    ),
+    (
+        "rvtl-script 1 1 4 4 2\nevict 0\n",
+        "`evict HART ADDRESS`, with an address of 8 lower-case digits such as 0x80000ab0, is wanted, not `evict 0`",
+    ),
+    (
+        "rvtl-script 1 1 4 4 2\ndeliver F 0\n",
+        "`deliver CHANNEL HART`, with a channel from A to E, is wanted, not `deliver F 0`",
+    ),
+    (
+        "rvtl-script 1 1 4 4 2\nlocal 0 4294967296\n",
+        "`local HART COUNT`, with a count of 1 to 256, is wanted, not `local 0 4294967296`",
+    ),
+    (
+        "rvtl-script 1 1 4 4 2\nstep 0\nstep 0",
+        "the line has no line feed: the file ends within it",
     ),
 ];
 
@@ -117,7 +165,7 @@ fn scripts(rt: HostRuntime) -> Result<(), Fail> {
 }
 
 /// Traces that are refused, and what is remarked of each.
-const TRACES: [(&str, &str); 12] = [
+const TRACES: [(&str, &str); 49] = [
     (
         "rvtl-script 1 1 4 4 2\n",
         "this is a script, and a trace is wanted",
@@ -128,19 +176,23 @@ const TRACES: [(&str, &str); 12] = [
     ),
     (
         "rvtl-trace 1\nT 1 4 0x80000000\nH 0 run",
-        "the text ends within this line or before it: a line feed ends each line, and each hart's H line a trace",
+        "the line has no line feed: the file ends within it",
     ),
     (
         "rvtl-trace 1\nT 1 4 0x80000000\nQ 0123456789\n",
         "no line of a trace begins with `Q`: they are T, I, R, P, M and H",
     ),
     (
-        "rvtl-trace 1\nT 1 4 0x80000000\nP 0 01234567890123456789012345678901234567890123456789\n",
-        "`P HART PLACE` is wanted, not `P 0 012345678901234567890123456789012345..`",
+        "rvtl-trace 1\nT 1 4 0x80000000\nP 0 12345678901234567890123456789012345678901234567890\n",
+        "`P HART PLACE`, with a place of at most 999999, is wanted, not `P 0 123456789012345678901234567890123456..`",
     ),
     (
         "rvtl-trace 1\nT 1 4 0x80000000\nT 1 4 0x80000000\n",
         "`T 1 4 0x80000000` may not stand here: I, R by hart (at most 1000000 of each), P, M and H lines follow each other",
+    ),
+    (
+        "rvtl-trace 1\nT 1 4 0x80000000\nT 9 4 0x80000000\n",
+        "`T 9 4 0x80000000` may not stand here: I, R by hart (at most 1000000 of each), P, M and H lines follow each other",
     ),
     (
         "rvtl-trace 3\nT 1 4 0x80000000\n",
@@ -165,6 +217,150 @@ const TRACES: [(&str, &str); 12] = [
     (
         "rvtl-trace 1\nT 1 4 0x80000000\nH 0 run \n",
         "a blank too many stands in the line: words have one between them",
+    ),
+    (
+        "rvtl-trace 1\n",
+        "the second line is missing, which is a T line",
+    ),
+    (
+        "rvtl-trace 1\nT 2 4 0x80000000\nH 0 run\n",
+        "a hart's H line is missing: those of all harts end a trace",
+    ),
+    (
+        "rvtl-trace 1\nT 1 4 0x80000000\nM s A 0 AcquireBlock 0x80000000 NtoB\n",
+        "a hart's H line is missing: those of all harts end a trace (`check --messages` judges a log of messages alone)",
+    ),
+    (
+        "rvtl-trace 1\nT 01 4 0x80000000\n",
+        "numbers have no sign, and no zero before them",
+    ),
+    (
+        "rvtl-trace 2\nT 5 4 0x80000000 +16\n",
+        "numbers have no sign, and no zero before them",
+    ),
+    (
+        "rvtl-trace 1\nT 3 4 0x80000000\nM s A 0 AcquireBlock 0x80002000 NtoB\n",
+        "0x80002000 is outside memory, 0x80000000 to 0x80000fff, by `T 3 4 0x80000000`",
+    ),
+    (
+        "rvtl-trace 1\nT 3 4 0x80000000\nM s A 0 AcquireBlock 0x7ffffff0 NtoB\n",
+        "0x7ffffff0 is outside memory, 0x80000000 to 0x80000fff, by `T 3 4 0x80000000`",
+    ),
+    (
+        "rvtl-trace 1\nT 3 4 0x80000000\nM s A 2 AcquireBlock 0x80000108 NtoB\n",
+        "0x80000108 is not a multiple of 16",
+    ),
+    (
+        "rvtl-trace 2\nT 1 4 0x80000000 64\nM s A 0 AcquireBlock 0x80000010 NtoB\n",
+        "0x80000010 is not a multiple of 64",
+    ),
+    (
+        "rvtl-trace 1\nT 3 4 0x80000000\nM s A 3 AcquireBlock 0x80000000 NtoB\n",
+        "no hart 3: the trace's harts are 0 to 2, by `T 3 4 0x80000000`",
+    ),
+    (
+        "rvtl-trace 1\nT 3 4 0x80000000\nM s A 03 AcquireBlock 0x80000000 NtoB\n",
+        "numbers have no sign, and no zero before them",
+    ),
+    (
+        "rvtl-trace 1\nT 1 4 0x80000000\nM t E 0 GrantAck 0x8000000A\n",
+        "0x and 8 lower-case digits are wanted, not `0x8000000A`",
+    ),
+    (
+        "rvtl-trace 1\nT 1 4 0x80000000\nP 1 2\n",
+        "no hart 1: the trace's only hart is 0, by `T 1 4 0x80000000`",
+    ),
+    (
+        "rvtl-trace 1\nT 1 4 0x80000000\nP 0 05\n",
+        "numbers have no sign, and no zero before them",
+    ),
+    (
+        "rvtl-trace 1\nT 1 4 0x80000000\nP 0 1000000\n",
+        "`P HART PLACE`, with a place of at most 999999, is wanted, not `P 0 1000000`",
+    ),
+    (
+        "rvtl-trace 1\nT 1 4 0x80000000\nR 1 0x80000000 0x00000013 - -\n",
+        "no hart 1: the trace's only hart is 0, by `T 1 4 0x80000000`",
+    ),
+    (
+        "rvtl-trace 1\nT 1 4 0x80000000\nR 0 0x80000000 0x0000001A - -\n",
+        "0x and 8 lower-case digits are wanted, not `0x0000001A`",
+    ),
+    (
+        "rvtl-trace 1\nT 1 4 0x80000000\nR 0 0x80000000 0x00000013 -\n",
+        "`R HART PC WORD LOADED SC`, with `-` where nothing was loaded, or no SC stands, is wanted, not `R 0 0x80000000 0x00000013 -`",
+    ),
+    (
+        "rvtl-trace 1\nT 1 4 0x80000000\nH 1 run\n",
+        "no hart 1: the trace's only hart is 0, by `T 1 4 0x80000000`",
+    ),
+    (
+        "rvtl-trace 1\nT 1 4 0x80000000\nH 0 exit 07\n",
+        "numbers have no sign, and no zero before them",
+    ),
+    (
+        "rvtl-trace 1\nT 1 4 0x80000000\nH 0 stop 9\n",
+        "`H HART stop CODE`, with a code of at most 8, is wanted, not `H 0 stop 9`",
+    ),
+    (
+        "rvtl-trace 1\nT 1 4 0x80000000\nH 0 exit 256\n",
+        "`H HART exit CODE`, with a code of at most 255, is wanted, not `H 0 exit 256`",
+    ),
+    (
+        "rvtl-trace 1\nT 1 4 0x80000000\nH 0 halt\n",
+        "`H HART run`, `H HART stop CODE` or `H HART exit CODE` is wanted, not `H 0 halt`",
+    ),
+    (
+        "rvtl-trace 1\nT 1 4 0x80000000\nI 0x80001000 00112233445566778899001122334455\n",
+        "0x80001000 is outside memory, 0x80000000 to 0x80000fff, by `T 1 4 0x80000000`",
+    ),
+    (
+        "rvtl-trace 1\nT 1 4 0x80000000\nI 0x80000000 0011223344556677889900112233445\n",
+        "DATA has 32 digits, two for each of a line's 16 bytes, not 31",
+    ),
+    (
+        "rvtl-trace 2\nT 1 4 0x80000000 64\nI 0x80000000 00112233445566778899001122334455\n",
+        "DATA has 128 digits, two for each of a line's 64 bytes, not 32",
+    ),
+    (
+        "rvtl-trace 1\nT 1 4 0x80000000\nI 0x80000000 0011223344556677889900112233445F\n",
+        "DATA has lower-case hexadecimal digits alone, not `F`",
+    ),
+    (
+        "rvtl-trace 1\nT 1 4 0x80000000\nI 0x80000000\n",
+        "`I LINE DATA`, with DATA of 32 lower-case hexadecimal digits, not all zero, is wanted, not `I 0x80000000`",
+    ),
+    (
+        "rvtl-trace 2\nT 1 4 0x80000000 64\nI 0x80000000 00000000000000000000000000000000000000000000000000000000000000000000000000000000000000000000000000000000000000000000000000000000\n",
+        "`I LINE DATA`, with DATA of 128 lower-case hexadecimal digits, not all zero, is wanted, not `I 0x80000000 000000000000000000000000000..`",
+    ),
+    (
+        "rvtl-trace 1\nT 1 4 0x80000000\nM s C 0 ReleaseData 0x80000000 TtoN\n",
+        "`M s|t C HART ProbeAckData|ReleaseData LINE TtoB|TtoN|BtoN|TtoT|BtoB|NtoN DATA`, with DATA of 32 lower-case hexadecimal digits, is wanted, not `M s C 0 ReleaseData 0x80000000 TtoN`",
+    ),
+    (
+        "rvtl-trace 1\nT 1 4 0x80000000\nM s C 0 ProbeAckData 0x80000000 TtoN 0011223344556677889900112233445566\n",
+        "DATA has 32 digits, two for each of a line's 16 bytes, not 34",
+    ),
+    (
+        "rvtl-trace 1\nT 1 4 0x80000000\nM s C 0 Release 0x80000000 toN\n",
+        "`M s|t C HART ProbeAck|Release LINE TtoB|TtoN|BtoN|TtoT|BtoB|NtoN`, or `ProbeAckData|ReleaseData` with a line's bytes behind, is wanted, not `M s C 0 Release 0x80000000 toN`",
+    ),
+    (
+        "rvtl-trace 2\nT 1 4 0x80000000 64\nM s D 0 GrantData 0x80000000 toT\n",
+        "`M s|t D HART GrantData LINE toT|toB|toN DATA`, with DATA of 128 lower-case hexadecimal digits, is wanted, not `M s D 0 GrantData 0x80000000 toT`",
+    ),
+    (
+        "rvtl-trace 1\nT 1 4 0x80000000\nM s D 0 ReleaseAck 0x80000000 toN\n",
+        "`M s|t D HART ReleaseAck LINE` is wanted, not `M s D 0 ReleaseAck 0x80000000 toN`",
+    ),
+    (
+        "rvtl-trace 1\nT 1 4 0x80000000\nM s D 0 Grant 0x80000000\n",
+        "`M s|t D HART Grant LINE toT|toB|toN`, `GrantData` with a line's bytes behind, or `ReleaseAck LINE` is wanted, not `M s D 0 Grant 0x80000000`",
+    ),
+    (
+        "rvtl-trace 1\nT 1 4 0x80000000\nM s B 0 ProbeBlock 0x80000000 NtoB\n",
+        "`M s|t B HART ProbeBlock LINE toT|toB|toN` is wanted, not `M s B 0 ProbeBlock 0x80000000 NtoB`",
     ),
 ];
 
@@ -355,7 +551,7 @@ fn linked_files(rt: HostRuntime) -> Result<(), Fail> {
 const EVENTS: [(Event, &str); 4] = [
     (
         Event::Step { hart: 3 },
-        "no hart 3: the script's first line names 2",
+        "no hart 3: the script's harts are 0 to 1",
     ),
     (
         Event::Drain {
