@@ -129,6 +129,10 @@ def main():
         journal = f"{folder}/no/j"
         ends("a journal in no folder", [rvtl, "run", "--raw", "--journal", journal, IMAGE], 1,
              [f"rvtl: {journal}: cannot write", "note: there is no such file or folder"])
+        scripts = f"{folder}/scripts"
+        os.makedirs(f"{scripts}/outcome-1.script")
+        ends("a folder in a script's place", [rvtl, "explore", "--raw", "--scripts", scripts, IMAGE], 1,
+             [f"rvtl: {scripts}: cannot write", f"note: {scripts}/outcome-1.script: this is a folder"])
         with open(SCRIPT, "rb") as file:
             ends("standard input", [*read_script, "-"], 0, ["hart 0: exit 5"], stdin=file)
         with open(SCRIPT, "rb") as file:

@@ -1,6 +1,6 @@
 //! The scripts of what was found, as files of a folder.
 
-ghost use Rattle.std.specs.Prelude.{◌≡◌, ◌≢◌, IfErr, IfOk, IfSome, List, OnOk, length, ℕ};
+ghost use Rattle.std.specs.Prelude.{◌≡◌, ◌≢◌, [], IfErr, IfOk, IfSome, List, OnOk, length, ℕ};
 ghost use Rattle.std.specs.String.{string_bytes};
 ghost use Rattle.command_files.specs.Files.{HoldsScript};
 ghost use Rattle.command_files.specs.Contents.{Contents, HoldsBytes};
@@ -11,20 +11,36 @@ ghost use Rattle.explore_command.specs.Keeping.{AreKept, AreKeptFrom, FileName, 
 ghost use Rattle.machine_types.specs.declared.config.Config.{Config};
 ghost use Rattle.trace_text.specs.Scripts.{text};
 
-use command_files::{Fault, Files, remark, script_of, unmade};
+use command_files::{Escaped, Fault, Files, remark, script_of};
 use command_settings::Explore;
 use explorer::{Exploration, Found, Realisation};
+use file_remarks::FileRemark;
 use machine_types::{Config, Event};
 use std::alloc::{AllocError, Global};
+use std::fmt::{self, Display, Formatter};
+use std::io::{self, ErrorKind};
 use trace_text::{Script, write_script};
 
-/// What is remarked where an outcome has no script.
-pub(crate) const NO_WAY_TO_OUTCOME: &str =
-    "no script was found that leads the machine to one of the outcomes";
+/// What is remarked where the folder's name is empty.
+const NO_NAME: &str = "the folder's name is empty: name one that exists, or . for this one";
 
-/// What is remarked where a stuck state has none.
-const NO_WAY_TO_STUCK: &str =
-    "no script was found that leads the machine to a state from which no schedule ends";
+/// Where a script leads the machine.
+#[derive(Clone, Copy, Debug)]
+pub(crate) enum Destination {
+    /// The outcome of this number.
+    Outcome(usize),
+    /// A state from which no schedule ends.
+    Stuck,
+}
+
+impl Display for Destination {
+    fn fmt<W: fmt::Write>(&self, f: &mut Formatter<W>) -> fmt::Result {
+        match *self {
+            Destination::Outcome(number) => write!(f, "outcome {number}"),
+            Destination::Stuck => f.write_str("a state from which no schedule ends"),
+        }
+    }
+}
 
 /// Where scripts are written, and for which machine they are.
 #[derive(Clone, Copy)]
@@ -69,10 +85,12 @@ pub(crate) fn keep<'a, T: Keepable, F: Files>(
     ensures kept { OnOk result (IfSome wanted.entry.scripts (λ folder. T.AreKept found.now (F.held files.new) config wanted.entry.machine.memory folder.now)) }
     ensures told { IfErr result (IsNamedBy wanted.entry.scripts IsFolderFault) }
     ensures spared { SparesOthers (IsInNamed wanted.entry.scripts (T.IsFileOf found.now)) (F.held files.old) (F.held files.new) }
+    ensures named { OnOk result (IfSome wanted.entry.scripts (λ folder. folder.now ≢ [])) }
 {
     let Some(name) = wanted.scripts else {
         return Ok(());
     };
+    refuse_unnamed(alloc, files, name)?;
     let folder = Folder {
         alloc,
         name,
@@ -80,6 +98,23 @@ pub(crate) fn keep<'a, T: Keepable, F: Files>(
         kib: wanted.machine.memory,
     };
     found.keep_in(folder, files)
+}
+
+/// Refuses a folder without a name: its files would stand in the root folder.
+pub(crate) fn refuse_unnamed<'a, F: Files>(
+    alloc: Global,
+    files: &mut F,
+    name: &'a str,
+) -> Result<(), Fault<'a>>
+    ensures named { OnOk result (name.entry.now ≢ []) }
+    ensures told { IfErr result (IsFolderFault name.entry) }
+    ensures stays { F.held files.new ≡ F.held files.old }
+{
+    if name.is_empty() {
+        remark(alloc, files, NO_NAME);
+        return Err(Fault::CannotMake { file: name });
+    }
+    Ok(())
 }
 
 impl<'a> Folder<'a> {
@@ -98,7 +133,7 @@ impl<'a> Folder<'a> {
         let Ok(path) = self.stuck_path() else {
             return Err(Fault::OutOfMemory);
         };
-        self.keep_at(files, &path, &stuck.script, NO_WAY_TO_STUCK)
+        self.keep_at(files, &path, &stuck.script, Destination::Stuck)
     }
 
     /// Writes a script for each outcome, the last one first.
@@ -114,10 +149,11 @@ impl<'a> Folder<'a> {
     {
         let mut rest = outcomes;
         while let [front @ .., last] = rest {
-            let Ok(path) = self.outcome_path(rest.len()) else {
+            let number = rest.len();
+            let Ok(path) = self.outcome_path(number) else {
                 return Err(Fault::OutOfMemory);
             };
-            self.keep_at(files, &path, &last.script, NO_WAY_TO_OUTCOME)?;
+            self.keep_at(files, &path, &last.script, Destination::Outcome(number))?;
             rest = front;
         }
         Ok(())
@@ -143,7 +179,7 @@ impl<'a> Folder<'a> {
         files: &mut F,
         path: &str,
         way: &Realisation,
-        not_found: &'static str,
+        destination: Destination,
     ) -> Result<(), Fault<'a>>
         requires { IsMemoryKib self.now.kib }
         ensures kept { OnOk result (IsKeptAt (F.held files.new) self.now.config self.now.kib path.now way.now) }
@@ -154,7 +190,7 @@ impl<'a> Folder<'a> {
             Realisation::Events(events) => self.write(files, path, events),
             Realisation::NoMemory => Err(Fault::OutOfMemory),
             Realisation::Limit | Realisation::Unrealised => {
-                Err(without_script(self.alloc, files, self.name, not_found))
+                Err(self.without_script(files, destination))
             }
         }
     }
@@ -190,23 +226,35 @@ impl<'a> Folder<'a> {
         }
         match files.write(path, bytes.as_slice()) {
             Ok(()) => Ok(()),
-            Err(error) => Err(unmade(self.alloc, files, self.name, error)),
+            Err(error) => Err(self.without_file(files, path, error)),
         }
     }
-}
 
-/// The folder can't have a script that wasn't found, and that is remarked.
-pub(crate) fn without_script<'a, F: Files>(
-    alloc: Global,
-    files: &mut F,
-    folder: &'a str,
-    not_found: &'static str,
-) -> Fault<'a>
-    ensures told { result ≡ Fault.CannotMake folder.entry }
-    ensures stays { F.held files.new ≡ F.held files.old }
-{
-    remark(alloc, files, not_found);
-    Fault::CannotMake { file: folder }
+    /// The folder can't have a script that wasn't found, and that is remarked.
+    pub fn without_script<F: Files>(&self, files: &mut F, destination: Destination) -> Fault<'a>
+        ensures told { result ≡ Fault.CannotMake self.now.name }
+        ensures stays { F.held files.new ≡ F.held files.old }
+    {
+        remark(
+            self.alloc,
+            files,
+            format_args!("no script was found that leads the machine to {destination}"),
+        );
+        Fault::CannotMake { file: self.name }
+    }
+
+    /// The folder didn't take the file of this path, and why is remarked with the path: the fault names the folder alone.
+    pub fn without_file<F: Files>(&self, files: &mut F, path: &str, error: io::Error) -> Fault<'a>
+        ensures told { IsFolderFault self.now.name result }
+        ensures stays { F.held files.new ≡ F.held files.old }
+    {
+        if error.kind() != ErrorKind::OutOfMemory {
+            let path = Escaped(path);
+            let why = FileRemark(error);
+            remark(self.alloc, files, format_args!("{path}: {why}"));
+        }
+        Fault::making(self.name, error)
+    }
 }
 
 fn copied(alloc: Global, events: &[Event]) -> Result<Vec<Event>, AllocError>

@@ -9,9 +9,9 @@ ghost use Rattle.explore_command.specs.Exploring.{IsFolderFault};
 ghost use Rattle.explore_command.specs.Keeping.{SparesOthers};
 ghost use Rattle.trace_text.specs.TraceLimits.{IsTrace};
 
-use crate::keeping::{Folder, NO_WAY_TO_OUTCOME, without_script};
+use crate::keeping::{Destination, Folder};
 use architecture_outcomes::{Outcome, Way};
-use command_files::{Fault, Files, unmade};
+use command_files::{Fault, Files};
 use explorer::Realisation;
 use std::alloc::AllocError;
 use trace_recorder::Trace;
@@ -31,10 +31,11 @@ pub(crate) fn keep_outcomes<'a, F: Files>(
 {
     let mut rest = outcomes;
     while let [front @ .., last] = rest {
-        let Ok(path) = path_of(folder, rest.len(), &last.way) else {
+        let number = rest.len();
+        let Ok(path) = path_of(folder, number, &last.way) else {
             return Err(Fault::OutOfMemory);
         };
-        keep_at(folder, files, &path, &last.way)?;
+        keep_at(folder, files, &path, number, &last.way)?;
         rest = front;
     }
     Ok(())
@@ -53,11 +54,12 @@ fn path_of(folder: Folder<'_>, number: usize, way: &Way) -> Result<String, Alloc
     }
 }
 
-/// Writes the file of this path, if there is anything to write.
+/// Writes the file of this path for the outcome of this number, if there is anything to write.
 fn keep_at<'a, F: Files>(
     folder: Folder<'a>,
     files: &mut F,
     path: &str,
+    number: usize,
     way: &Way,
 ) -> Result<(), Fault<'a>>
     requires memory { IsMemoryKib folder.kib }
@@ -70,7 +72,7 @@ fn keep_at<'a, F: Files>(
         Way::Machine(Realisation::Events(events)) => folder.write(files, path, events),
         Way::Machine(Realisation::NoMemory) => Err(Fault::OutOfMemory),
         Way::Machine(Realisation::Limit | Realisation::Unrealised) => {
-            Err(without_script(folder.alloc, files, folder.name, NO_WAY_TO_OUTCOME))
+            Err(folder.without_script(files, Destination::Outcome(number)))
         }
         Way::ModelAlone(trace) | Way::Model(trace) => put_trace(folder, files, path, trace),
     }
@@ -94,6 +96,6 @@ fn put_trace<'a, F: Files>(
     }
     match files.write(path, bytes.as_slice()) {
         Ok(()) => Ok(()),
-        Err(error) => Err(unmade(folder.alloc, files, folder.name, error)),
+        Err(error) => Err(folder.without_file(files, path, error)),
     }
 }
