@@ -7,7 +7,7 @@ use crate::fault::Fault;
 use crate::files::Files;
 use coherent_machine::ApplyError;
 use command_settings::MachineOptions;
-use file_remarks::{EventRemark, SizeRemark};
+use file_remarks::{EventRemark, OutsideRemark, SizeRemark};
 use std::alloc::Global;
 use std::fmt::Display;
 use std::io;
@@ -73,6 +73,18 @@ pub fn remark_refused<F: Files>(alloc: Global, files: &mut F, script: &Script, f
     if let Some(event) = script.events.as_slice().get(index) {
         let event = *event;
         remark(alloc, files, EventRemark { event, script });
+    }
+}
+
+/// Remarks that no line of memory is at the address, where a machine of the script has none there.
+pub fn remark_outside<F: Files>(alloc: Global, files: &mut F, address: Option<u32>, script: &Script)
+    ensures { F.held files.new ≡ F.held files.old }
+{
+    let Some(address) = address else {
+        return;
+    };
+    if let Some(outside) = OutsideRemark::of(address, script) {
+        remark(alloc, files, outside);
     }
 }
 

@@ -1,4 +1,4 @@
-//! What is wrong with an event that no machine of a size has.
+//! What is wrong with an event, or an address, that no machine of a size has.
 
 use crate::machine::Machine;
 use machine_types::{Event, MAX_ROW};
@@ -27,6 +27,30 @@ impl Display for EventRemark<'_> {
                 write!(f, "count {count}: it is 1 to {MAX_ROW}")
             }
             (None, _) => Ok(()),
+        }
+    }
+}
+
+/// That no line of memory is at an address, by a script.
+#[derive(Clone, Copy, Debug)]
+pub struct OutsideRemark<'a> {
+    address: u32,
+    script: &'a Script,
+}
+
+impl<'a> OutsideRemark<'a> {
+    /// None where there is one.
+    pub fn of(address: u32, script: &'a Script) -> Option<OutsideRemark<'a>> {
+        machine_of(script).address_flaw(address, 1)?;
+        Some(OutsideRemark { address, script })
+    }
+}
+
+impl Display for OutsideRemark<'_> {
+    fn fmt<W: fmt::Write>(&self, f: &mut Formatter<W>) -> fmt::Result {
+        match machine_of(self.script).address_flaw(self.address, 1) {
+            Some(flaw) => write!(f, "{flaw}"),
+            None => Ok(()),
         }
     }
 }

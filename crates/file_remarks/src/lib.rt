@@ -19,7 +19,7 @@ mod script;
 mod size;
 mod trace;
 
-pub use event::EventRemark;
+pub use event::{EventRemark, OutsideRemark};
 pub use file::FileRemark;
 pub use image::ImageRemark;
 pub use script::ScriptRemark;

@@ -8,7 +8,7 @@ ghost use Rattle.script_commands.specs.Charting.{IsAddress, IsChartFault, IsChar
 
 use crate::chart::address::address_in;
 use chart_drawing::STYLE;
-use command_files::{Fault, Files, config_of, image_in, remark_refused, script_in};
+use command_files::{Fault, Files, config_of, image_in, remark_outside, remark_refused, script_in};
 use command_settings::Replay;
 use run_chart::{ChartError, write_chart};
 use std::alloc::Global;
@@ -42,8 +42,9 @@ fn fault_of<'a>(script: &'a str, error: ChartError) -> Fault<'a>
 
 /// Reads and judges the address, the script, then the image, applies the events, and prints on `out` the
 /// picture of what happened, an SVG document. `line` is an address in the line of memory whose messages, bars
-/// and rows alone are drawn. A picture has at most 400 rows and bars. Where there is a fault, nothing is printed, but
-/// after `cannot write` or `out of memory` perhaps a beginning of the picture.
+/// and rows alone are drawn; where memory has none at it, that is remarked. A picture has at most 400 rows and
+/// bars. Where there is a fault, nothing is printed, but after `cannot write` or `out of memory` perhaps a
+/// beginning of the picture.
 pub fn chart_files<'a, F: Files, O: Write>(
     alloc: Global,
     files: &mut F,
@@ -70,6 +71,7 @@ pub fn chart_files<'a, F: Files, O: Write>(
         remark_refused(alloc, files, &script, &fault);
         return Err(fault);
     }
+    remark_outside(alloc, files, address, &script);
     match out.flush() {
         Ok(()) => Ok(()),
         Err(error) => Err(Fault::writing(error)),
