@@ -45,7 +45,7 @@ impl Display for OrderRemark<'_> {
     }
 }
 
-/// An operation of a trace that overtakes another, and what would forbid it.
+/// An operation of a trace that overtakes another, and what would forbid that.
 #[derive(Clone, Copy, Debug)]
 pub struct OvertakingRemark<'a> {
     pub trace: &'a Trace,
@@ -60,7 +60,7 @@ impl Display for OvertakingRemark<'_> {
         put_operation(self.trace, name_of(&first), f)?;
         f.write_str(", which precedes it;")?;
         put_instruction(&self.overtaking.fence(), None, f)?;
-        f.write_str(" between them would forbid it")?;
+        f.write_str(" between them would forbid this overtaking")?;
         if matches!(first.kind, Kind::Lr | Kind::Amo) && !first.aq {
             f.write_str(", and so would aq on the one that precedes")?;
         }
