@@ -11,7 +11,7 @@ ghost use Rattle.command_files.specs.Faults.{LeavesAtFault};
 use crate::reading::whole_trace;
 use command_files::{Fault, Files, remark, text_in};
 use machine_types::MemoryModel;
-use order_remarks::{OrderRemark, RunRemark};
+use order_remarks::{LengthRemark, NamingRemark, OrderRemark, RunRemark};
 use rvwmo_order::{CheckError, Verdict, check_model};
 use std::alloc::Global;
 use std::io::{self, Write};
@@ -39,9 +39,7 @@ pub fn check_file<'a, F: Files, O: Write>(
     let verdict = match judged(alloc, &trace, model) {
         Ok(verdict) => verdict,
         Err(error) => {
-            if error == CheckError::NotARun {
-                remark(alloc, files, RunRemark(&trace));
-            }
+            remark_unjudged(alloc, files, &trace, error);
             return Err(Fault::check(file, error));
         }
     };
@@ -60,6 +58,18 @@ pub fn check_file<'a, F: Files, O: Write>(
     match print(verdict, out) {
         Ok(()) => Ok(verdict),
         Err(error) => Err(Fault::writing(error)),
+    }
+}
+
+/// Remarks why a trace isn't judged.
+fn remark_unjudged<F: Files>(alloc: Global, files: &mut F, trace: &Trace, error: CheckError)
+    ensures { F.held files.new ≡ F.held files.old }
+{
+    match error {
+        CheckError::NotARun => remark(alloc, files, RunRemark(trace)),
+        CheckError::TooLong => remark(alloc, files, LengthRemark(trace)),
+        CheckError::NotAnOrder => remark(alloc, files, NamingRemark(trace)),
+        CheckError::NoMemory => {}
     }
 }
 

@@ -2,7 +2,7 @@
 
 use elf_loader::Image;
 use hart::{Hart, Retired, can_fetch};
-use rv32_decode::decode;
+use rv32_decode::{Instr, decode};
 use std::fmt::{self, Display, Formatter};
 use trace_recorder::Trace;
 
@@ -40,7 +40,11 @@ enum Cause {
     Outside { pc: u32 },
     AnotherWord { pc: u32, loaded: u32, told: u32 },
     Stops { pc: u32 },
-    Answers,
+    LoadedMissing,
+    LoadedUnwanted,
+    LoadedTooLarge,
+    SuccessMissing,
+    SuccessUnwanted,
 }
 
 impl Display for Cause {
@@ -58,9 +62,19 @@ impl Display for Cause {
                 )
             }
             Cause::Stops { pc } => write!(f, "the instruction at 0x{pc:08x} stops its hart"),
-            Cause::Answers => f.write_str(
-                "a loaded number, or whether an SC succeeded, is missing, too much or too large",
-            ),
+            Cause::LoadedMissing => f.write_str("LOADED is missing, and the instruction loads"),
+            Cause::LoadedUnwanted => {
+                f.write_str("LOADED is a number, and the instruction loads nothing")
+            }
+            Cause::LoadedTooLarge => {
+                f.write_str("LOADED has more bytes than the instruction loads")
+            }
+            Cause::SuccessMissing => {
+                f.write_str("`ok` or `fail` is missing, and the instruction is an SC")
+            }
+            Cause::SuccessUnwanted => {
+                f.write_str("`ok` or `fail` is told, and the instruction is no SC")
+            }
         }
     }
 }
@@ -95,9 +109,27 @@ fn stepped(image: &Image, hart: &Hart, entry: &Retired) -> Result<Hart, Cause> {
         return Err(Cause::Stops { pc });
     }
     if !entry.has_answers(&instr) {
-        return Err(Cause::Answers);
+        return Err(wrong_answer(entry, &instr));
     }
     let mut next = *hart;
     next.retire(entry, &instr);
     Ok(next)
+}
+
+// What of an entry is not the answer that its instruction gets.
+fn wrong_answer(entry: &Retired, instr: &Instr) -> Cause {
+    let loads = matches!(
+        instr,
+        Instr::Load { .. } | Instr::Lr { .. } | Instr::Amo { .. }
+    );
+    match (entry.loaded, loads) {
+        (None, true) => return Cause::LoadedMissing,
+        (Some(_), false) => return Cause::LoadedUnwanted,
+        _ => {}
+    }
+    match (entry.sc_ok, matches!(instr, Instr::Sc { .. })) {
+        (None, true) => Cause::SuccessMissing,
+        (Some(_), false) => Cause::SuccessUnwanted,
+        _ => Cause::LoadedTooLarge,
+    }
 }

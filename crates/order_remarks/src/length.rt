@@ -1,0 +1,20 @@
+//! How many operations a trace has, where they are too many.
+
+use crate::operations::operations_of;
+use std::fmt::{self, Display, Formatter};
+use trace_operations::MAX_OPERATIONS;
+use trace_recorder::Trace;
+
+/// How many memory operations a trace has that was refused as too long, and how many are judged.
+#[derive(Clone, Copy, Debug)]
+pub struct LengthRemark<'a>(pub &'a Trace);
+
+impl Display for LengthRemark<'_> {
+    fn fmt<W: fmt::Write>(&self, f: &mut Formatter<W>) -> fmt::Result {
+        let count = operations_of(self.0);
+        write!(
+            f,
+            "the trace has {count} memory operations, and at most {MAX_OPERATIONS} are judged: fewer harts or a shorter run has fewer"
+        )
+    }
+}
