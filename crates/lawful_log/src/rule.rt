@@ -22,10 +22,10 @@ pub enum LogRule {
     /// No second Probe to a hart before its ProbeAck is taken.
     ProbeOnce,
     /// No Probe and no other Grant of the line from a Grant's sending until its GrantAck is taken, and no
-    /// Grant while a ProbeAck of the line is outstanding.
+    /// Grant from a Probe's sending until its ProbeAck is taken.
     GrantAlone,
-    /// No ProbeAck, Acquire or Release from a Release until its ReleaseAck is taken, and no Release while
-    /// the hart's Acquire is unanswered.
+    /// No ProbeAck, Acquire or Release from a Release until its ReleaseAck is taken, and no Release from an
+    /// Acquire until its Grant is taken.
     ReleaseAlone,
 }
 
@@ -61,15 +61,18 @@ impl LogRule {
     /// What stands against an entry that breaks the rule, in words.
     pub fn objection(self) -> &'static str {
         match self {
-            LogRule::InOrder => "the message isn't the front of its queue",
-            LogRule::Question => "no question that it answers has arrived and is unanswered",
-            LogRule::Permission => "the hart's Acquire of this line asked for another permission",
-            LogRule::Data => "a Grant is without data exactly where a BtoT's copy wasn't lost",
-            LogRule::AcquireOnce => "the hart's Acquire of this line is unanswered",
-            LogRule::ProbeOnce => "the hart's ProbeAck of this line is outstanding",
-            LogRule::GrantAlone => "a GrantAck or a ProbeAck of this line is outstanding",
+            LogRule::InOrder => "its queue is empty, or has another message in front",
+            LogRule::Question => "no question that was taken is left for it to answer",
+            LogRule::Permission => "the Acquire that it answers asked for another permission",
+            LogRule::Data =>
+                "a Grant is without data exactly where its Acquire was BtoT and the copy wasn't lost meanwhile",
+            LogRule::AcquireOnce =>
+                "the Grant of the hart's earlier Acquire of this line wasn't taken yet",
+            LogRule::ProbeOnce =>
+                "the ProbeAck of the earlier Probe of this line to the hart wasn't taken yet",
+            LogRule::GrantAlone => "a GrantAck or a ProbeAck of this line wasn't taken yet",
             LogRule::ReleaseAlone =>
-                "a Release or an Acquire of this line by the hart is unanswered",
+                "the ReleaseAck of the hart's Release of this line, or the Grant of its Acquire, wasn't taken yet",
         }
     }
 }

@@ -6,6 +6,7 @@ mod ending;
 mod objection;
 mod place;
 mod verdict;
+mod waiting;
 
 pub use ending::end_text;
 pub use objection::Objection;

@@ -1,6 +1,7 @@
 //! What stands against a message, in words.
 ghost use Rattle.log_text.specs.Objections.{ObjectsTo};
 
+use crate::waiting::{awaits_release_ack, front_of};
 use lawful_log::{Awaited, LogRule, first_awaited};
 use std::fmt;
 use std::fmt::Display;
@@ -8,13 +9,17 @@ use tl_types::{Body, Cap, Change, Channel, Grow, Msg};
 use trace_recorder::Logged;
 
 /// An entry that breaks a rule of the lawful log, and what stands against it. Its text is as
-/// `GrantData 0x80000100 toT to hart 1: hart 0's GrantAck of this line is outstanding`.
+/// `GrantData 0x80000100 toT to hart 1: hart 0's GrantAck of this line wasn't taken yet`.
 #[derive(Clone, Copy, Debug)]
 pub struct Objection {
     pub rule: LogRule,
     pub entry: Logged,
-    /// The answer of the line that was outstanding before the entry.
+    /// The answer of the line that was due before the entry.
     pub awaited: Option<Awaited>,
+    /// The message that was in front of the entry's queue before it.
+    pub front: Option<Msg>,
+    /// Whether a ReleaseAck of the line to the hart was due before it.
+    pub awaits_release_ack: bool,
 }
 
 impl Objection {
@@ -23,11 +28,33 @@ impl Objection {
         ensures { ObjectsTo rule index harts log.now result }
     {
         let entry = *log.get(index)?;
+        let before = &log[..index];
         Some(Objection {
             rule,
             entry,
-            awaited: first_awaited(&log[..index], entry.message.line, harts),
+            awaited: first_awaited(before, entry.message.line, harts),
+            front: front_of(before, entry.message.channel(), entry.hart),
+            awaits_release_ack: awaits_release_ack(before, entry.message.line, entry.hart),
         })
+    }
+
+    // What stood against the entry.
+    fn put_cause<W: fmt::Write>(&self, f: &mut fmt::Formatter<W>) -> fmt::Result {
+        match (self.rule, self.awaited) {
+            (LogRule::InOrder, _) => put_front(self.front, self.entry.message, f),
+            (LogRule::GrantAlone, Some(awaited)) => {
+                write!(f, "{awaited} of this line wasn't taken yet")
+            }
+            (LogRule::ReleaseAlone, _) if self.awaits_release_ack => {
+                f.write_str(
+                    "the ReleaseAck of the hart's earlier Release of this line wasn't taken yet",
+                )
+            }
+            (LogRule::ReleaseAlone, _) => {
+                f.write_str("the Grant of the hart's Acquire of this line wasn't taken yet")
+            }
+            _ => f.write_str(self.rule.objection()),
+        }
     }
 }
 
@@ -39,12 +66,22 @@ impl Display for Objection {
             Channel::A | Channel::C | Channel::E => write!(f, "{message} from hart {hart}: ")?,
             Channel::B | Channel::D => write!(f, "{message} to hart {hart}: ")?,
         }
-        match (self.rule, self.awaited) {
-            (LogRule::GrantAlone, Some(awaited)) => {
-                write!(f, "{awaited} of this line is outstanding")
-            }
-            _ => f.write_str(self.rule.objection()),
+        self.put_cause(f)
+    }
+}
+
+// What is in front of the message's queue in its place.
+fn put_front<W: fmt::Write>(
+    front: Option<Msg>,
+    message: Msg,
+    f: &mut fmt::Formatter<W>,
+) -> fmt::Result {
+    match front {
+        None => f.write_str("its queue is empty"),
+        Some(front) if is_spelt_alike(&front, &message) => {
+            f.write_str("the message in front of its queue has other bytes")
         }
+        Some(front) => write!(f, "{} is in front of its queue", Spelt(front)),
     }
 }
 
@@ -58,6 +95,13 @@ impl Display for Spelt {
         let permissions = permissions(&self.0.body);
         write!(f, "{name} {:#010x}{permissions}", self.0.line)
     }
+}
+
+// Whether two messages are the same but for the bytes that they carry.
+fn is_spelt_alike(first: &Msg, second: &Msg) -> bool {
+    first.line == second.line
+        && name(&first.body) == name(&second.body)
+        && permissions(&first.body) == permissions(&second.body)
 }
 
 fn name(body: &Body) -> &'static str {
