@@ -105,6 +105,9 @@ pub const RIVAL: [u32; 6] = [LUI_A2, ADDI_A2_X, LR_T0, LW_T1_X, SC_A0, ECALL];
 /// The same with a second such line.
 pub const RIVALS: [u32; 7] = [LUI_A2, ADDI_A2_X, LR_T0, LW_T1_X, LW_T1_Y, SC_A0, ECALL];
 
+/// Loads from two lines, and exits with what it loads from the second.
+pub const TWO_LOADS: [u32; 4] = [LUI_A2, LW_T1_X, LW_A0_Y, ECALL];
+
 /// Stores 5 to two lines, and exits with what it loads from the first.
 pub const TWO_LINES: [u32; 6] = [LUI_A2, LI_T0_5, SW_T0_X, SW_T0_Y, LW_A0_X, ECALL];
 

@@ -2,12 +2,13 @@
 
 use crate::programs::{
     CIRCLE, COUNT, DEKKER, End, LOAD, MESSAGE_PASSING, READERS, RESERVED, RIVALS, SPIN_LOCK,
-    STORE_BUFFERING, STORE_BUFFERING_FENCED, TWICE, TWO_LINES, X, Y, are_ends, config_of, image_of,
+    STORE_BUFFERING, STORE_BUFFERING_FENCED, TWICE, TWO_LINES, TWO_LOADS, X, Y, are_ends,
+    config_of, image_of,
 };
 use crate::same::{same, same_of};
 use flat_model::FlatEvent;
 use hart::Status;
-use machine_types::Event;
+use machine_types::{Config, Event};
 use schedules::{RealiseError, Schedule, realise, sample};
 use std::alloc::{AllocError, Global};
 use std::process::Abort;
@@ -375,12 +376,12 @@ fn what_cannot_happen_is_told(rt: HostRuntime) -> Result<(), Fail> {
 fn sampled(
     alloc: Global,
     words: &[u32],
-    ways: u32,
+    config: Config,
     seed: u64,
     most_events: u64,
 ) -> Result<Schedule, Fail> {
     let image = image_of(alloc, words)?;
-    Ok(sample(alloc, image, config_of(2, ways)?, seed, most_events)?)
+    Ok(sample(alloc, image, config, seed, most_events)?)
 }
 
 /// One hart finds 0 and the other 1.
@@ -391,7 +392,7 @@ fn has_counted(schedule: &Schedule) -> bool {
 
 /// The sample ends as it may, and the same seed gives it again.
 fn ends_as_it_may(rt: &(impl Abort + AllocGlobal), ways: u32, seed: u64) -> Result<(), Fail> {
-    let schedule = sampled(rt.alloc(), &COUNT, ways, seed, 100_000)?;
+    let schedule = sampled(rt.alloc(), &COUNT, config_of(2, ways)?, seed, 100_000)?;
     same_of(rt, has_counted(&schedule), true, &seed);
     is_given_again(rt, ways, seed, &schedule.events)
 }
@@ -402,7 +403,7 @@ fn is_given_again(
     seed: u64,
     events: &[Event],
 ) -> Result<(), Fail> {
-    let again = sampled(rt.alloc(), &COUNT, ways, seed, 100_000)?;
+    let again = sampled(rt.alloc(), &COUNT, config_of(2, ways)?, seed, 100_000)?;
     same(rt, events, again.events.as_slice());
     Ok(())
 }
@@ -416,9 +417,19 @@ fn samples_end_as_they_may(rt: HostRuntime) -> Result<(), Fail> {
     Ok(())
 }
 
+// The second line has room once the first is given up, also where that is picked before the first has come.
+#[test]
+fn samples_make_room(rt: HostRuntime) -> Result<(), Fail> {
+    for seed in 0..20u64 {
+        let schedule = sampled(rt.alloc(), &TWO_LOADS, config_of(1, 1)?, seed, 10_000)?;
+        same_of(&rt, are_ends(&schedule.results, &[(0, None)]), true, &seed);
+    }
+    Ok(())
+}
+
 #[test]
 fn sample_stops_after_its_tries(rt: HostRuntime) -> Result<(), Fail> {
-    let schedule = sampled(rt.alloc(), &CIRCLE, 2, 1, 50)?;
+    let schedule = sampled(rt.alloc(), &CIRCLE, config_of(2, 2)?, 1, 50)?;
     // Until hart 0 has exited each try is a step of either hart, and then of hart 1.
     same(&rt, schedule.events.len(), 50);
     same(&rt, schedule.results.len(), 2);

@@ -57,7 +57,7 @@ impl Player {
                 return Ok(());
             };
             let outcome = self.apply(event)?;
-            picker.learn(event, outcome)?;
+            picker.learn(&self.views(), event, outcome)?;
         }
         Ok(())
     }
@@ -69,8 +69,8 @@ struct Picker {
     generator: SplitMix64,
     // What may happen next.
     choices: Vec<Event>,
-    // The lines that caches asked for, as evictions; one that isn't held any more is forgotten when it is
-    // picked.
+    // The lines that caches asked for, as evictions, each once; one that is neither held nor asked for any
+    // more is forgotten when it is picked.
     evictions: Vec<Event>,
 }
 
@@ -121,17 +121,37 @@ impl Picker {
         Ok(())
     }
 
-    // A line that is asked for may be given up later.
-    fn learn(&mut self, event: Event, outcome: Option<Outcome>) -> Result<(), AllocError> {
+    // A line that is asked for may be given up later. Picked before it has come, its eviction is kept: else
+    // nothing would make room in its set.
+    fn learn(
+        &mut self,
+        views: &Views<'_>,
+        event: Event,
+        outcome: Option<Outcome>,
+    ) -> Result<(), AllocError> {
         match (event, outcome) {
             (Event::Step { hart } | Event::Drain { hart, .. }, Some(Outcome::Missed(line))) => {
-                self.evictions.push(Event::Evict { hart, line })?;
+                self.note(Event::Evict { hart, line })?;
             }
-            (Event::Evict { .. }, Some(Outcome::Evicted | Outcome::NotHeld)) => {
+            (Event::Evict { hart, line }, Some(Outcome::Evicted | Outcome::NotHeld))
+                if !is_asked_for(views, hart, line) => {
                 self.evictions.retain(|other| *other != event);
             }
             _ => {}
         }
         Ok(())
     }
+
+    fn note(&mut self, eviction: Event) -> Result<(), AllocError> {
+        if !self.evictions.contains(&eviction) {
+            self.evictions.push(eviction)?;
+        }
+        Ok(())
+    }
+}
+
+// Whether the hart's cache waits for the line.
+fn is_asked_for(views: &Views<'_>, hart: u8, line: u32) -> bool {
+    let place = usize::from(hart);
+    place < views.harts() && views.cache(place).is_acquiring(line)
 }
