@@ -9,6 +9,9 @@ const OPTIONS: &str = "-march=rv32ima -mabi=ilp32";
 /// What the linker is told so that a program stands where memory begins.
 const PLACE: &str = "link it with -n -Ttext=0x80000000";
 
+/// What to do where memory is too small.
+pub(crate) const MORE_MEMORY: &str = "name more KIB by --memory or in the script, at most 1024";
+
 /// An object file that isn't linked.
 const ET_REL: u32 = 1;
 
@@ -51,7 +54,7 @@ impl Display for ElfRemark<'_> {
             LoadError::FileType => f.write_str(self.file_type()),
             _ => write!(
                 f,
-                "the entry, 0x{:08x}, is no multiple of 4, or lies outside memory",
+                "the entry, 0x{:08x}, is no multiple of 4, or lies outside memory: .globl _start, or -e NAME, names it",
                 self.long(24)
             ),
         }
@@ -136,7 +139,7 @@ impl ElfRemark<'_> {
         }
         write!(
             f,
-            "a segment ends at 0x{end:08x}, behind memory: name more KIB, at most 1024, or {PLACE}"
+            "a segment ends at 0x{end:08x}, behind memory: {MORE_MEMORY}, or {PLACE}"
         )
     }
 }

@@ -1,6 +1,6 @@
 //! What is wrong with a program.
 
-use crate::elf::ElfRemark;
+use crate::elf::{ElfRemark, MORE_MEMORY};
 use crate::kind::Kind;
 use elf_loader::LoadError;
 use std::fmt::{self, Display, Formatter};
@@ -36,8 +36,10 @@ impl Display for ImageRemark<'_> {
 }
 
 fn bare<W: fmt::Write>(error: LoadError, f: &mut Formatter<W>) -> fmt::Result {
-    f.write_str(match error {
-        LoadError::Short => "bare words are 4 bytes each, and the file ends within one",
-        _ => "the words are more than memory holds: name more KIB, at most 1024",
-    })
+    match error {
+        LoadError::Short => {
+            f.write_str("bare words are 4 bytes each, and the file ends within one")
+        }
+        _ => write!(f, "the words are more than memory holds: {MORE_MEMORY}"),
+    }
 }

@@ -411,7 +411,7 @@ const IMAGES: [(&[u8], bool, &str); 5] = [
     (
         &[0; 4100],
         true,
-        "the words are more than memory holds: name more KIB, at most 1024",
+        "the words are more than memory holds: name more KIB by --memory or in the script, at most 1024",
     ),
     (
         &FLOATING,
@@ -513,12 +513,12 @@ const CHANGES: [(usize, u8, &str); 14] = [
     (
         61,
         0x10,
-        "a segment ends at 0x80001004, behind memory: name more KIB, at most 1024, or link it with -n -Ttext=0x80000000",
+        "a segment ends at 0x80001004, behind memory: name more KIB by --memory or in the script, at most 1024, or link it with -n -Ttext=0x80000000",
     ),
     (
         24,
         2,
-        "the entry, 0x80000002, is no multiple of 4, or lies outside memory",
+        "the entry, 0x80000002, is no multiple of 4, or lies outside memory: .globl _start, or -e NAME, names it",
     ),
 ];
 
