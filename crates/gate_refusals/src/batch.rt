@@ -79,26 +79,32 @@ fn play_batch<R: Eprint + AllocGlobal>(
     play_fabric(rt, case, Some(batch), pages)
 }
 
-/// The machine is expected to show what it does behind an event `Local` of so many instructions.
-fn expect_local<R: Eprint>(
+/// What hart 0 runs by itself from reset on.
+fn first_batch<R: Eprint + AllocGlobal>(rt: &R, case: &Case) -> Result<Batch> {
+    let machine = at_reset(rt, case)?;
+    batch_of(rt.alloc(), &machine)
+}
+
+/// What a machine shows behind an event `Local` of so many instructions is expected of others.
+fn expect_local<R: Eprint + AllocGlobal>(
     rt: &R,
-    machine: &mut Machine,
+    case: &Case,
     count: u32,
     pages: &mut Pages,
 ) -> Result<()> {
-    let outcome = apply(rt, machine, Event::Local { hart: 0, count }, pages)?;
+    let mut machine = at_reset(rt, case)?;
+    let outcome = apply(rt, &mut machine, Event::Local { hart: 0, count }, pages)?;
     ensure!(outcome == Outcome::Retired, "an event isn't retired");
-    show_machine(&mut pages.expected, machine)?;
+    show_machine(&mut pages.expected, &machine)?;
     Ok(())
 }
 
 /// How many instructions hart 0 begins with that it can run by itself. A machine that adopts them, and a fabric that
 /// they are committed to, are to show what a machine shows behind the event `Local` of as many.
 pub fn adopt_first<R: Eprint + AllocGlobal>(rt: &R, case: &Case, pages: &mut Pages) -> Result<u32> {
-    let mut machine = at_reset(rt, case)?;
-    let batch = batch_of(rt.alloc(), &machine)?;
+    let batch = first_batch(rt, case)?;
     let count = u32::try_from(batch.entries().len())?;
-    expect_local(rt, &mut machine, count, pages)?;
+    expect_local(rt, case, count, pages)?;
     play_batch(rt, case, &batch, pages)?;
     Ok(count)
 }
