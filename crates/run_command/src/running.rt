@@ -85,6 +85,7 @@ pub fn run_files<'a, R: Threads + Wait + Sync, F: Files, O: Write, E: Write, P: 
     ensures unfinished { IfErr result (λ fault. LeavesAtFault fault (O.contents out.old) (O.contents out.new)
         (IsRunCutOff (F.held files.old) (F.held files.new) wanted.entry (O.contents out.old) (O.contents out.new))) }
     ensures spared { (other : List ℕ) → other ≢ wanted.entry.journal.now → F.held files.new other ≡ F.held files.old other }
+    ensures image { F.held files.new wanted.entry.image.now ≡ F.held files.old wanted.entry.image.now }
     ensures untouched { IfErr result (λ fault. ComesBeforeJournal fault → F.held files.new ≡ F.held files.old) }
 {
     every_trace_has_a_text();
@@ -130,6 +131,8 @@ fn spare_image<'a, F: Files>(
     image: &str,
     journal: &'a str,
 ) -> Result<(), Fault<'a>>
+    ensures apart { OnOk result (image.now ≢ journal.entry.now) }
+    ensures same { OnErr result (image.now ≡ journal.entry.now) }
     ensures told { IfErr result (λ fault. fault ≡ Fault.CannotMake journal.entry) }
     ensures stays { F.held files.new ≡ F.held files.old }
 {

@@ -153,3 +153,9 @@ returns-in_err-print-clause-untouched g c =
 pub returns-in_err-keep-clause-untouched : goal.returns-in_err-keep-clause-untouched
 returns-in_err-keep-clause-untouched g c =
     handed_up _ c.from_residual-in_err-keep.result _ c.from_residual-in_err-keep.ensures.1 (λ before. absurd (not_before _ (CannotMake c.args.wanted.journal) (λ b. b) c.in_err-keep.ensures.told before))
+
+pub returns-in_err-print-clause-image : goal.returns-in_err-print-clause-image
+returns-in_err-print-clause-image g c = c.keep.ensures.others c.args.wanted.image.now c.in_ok-spare_image.ensures.apart ∙ ap (λ (h : Contents). h c.args.wanted.image.now) (c.spare_image.ensures.stays ∙ c.in_ok-image.ensures.stays)
+
+pub returns-clause-image : goal.returns-clause-image
+returns-clause-image g c = c.keep.ensures.others c.args.wanted.image.now c.in_ok-spare_image.ensures.apart ∙ ap (λ (h : Contents). h c.args.wanted.image.now) (c.spare_image.ensures.stays ∙ c.in_ok-image.ensures.stays)
