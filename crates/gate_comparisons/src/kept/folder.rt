@@ -118,12 +118,12 @@ impl Folder {
 
 /// The files of a folder, and the system's where it has none of the name. What is written stays in memory.
 #[derive(Drop)]
-pub struct Before<'a, R> {
+pub struct Backed<'a, R> {
     pub folder: &'a mut Folder,
     pub rt: &'a R,
 }
 
-impl<R: System + AllocGlobal> Files for Before<'_, R> {
+impl<R: System + AllocGlobal> Files for Backed<'_, R> {
     type Reader = Reader;
 
     fn open(&mut self, name: &str) -> io::Result<Reader> {

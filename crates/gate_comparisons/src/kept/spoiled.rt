@@ -2,7 +2,7 @@
 //! over each. A run may still succeed, or judge what a trace still says; any other prints nothing and tells
 //! why in one line.
 
-use super::folder::{Before, Folder};
+use super::folder::{Backed, Folder};
 use super::said::Said;
 use super::spoiling::{cut, reset};
 use anyhow::{Result, bail, ensure};
@@ -129,7 +129,7 @@ fn run_over<R: Files + Threads + Wait + Sync + AllocGlobal>(
     let mut folder = Folder::new(rt.alloc());
     folder.put(other.name, other.bytes)?;
     folder.put(name, bytes)?;
-    let mut files = Before {
+    let mut files = Backed {
         folder: &mut folder,
         rt,
     };

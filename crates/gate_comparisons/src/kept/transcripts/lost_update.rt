@@ -1,6 +1,6 @@
 //! The scripts that lead the program `lost_update.elf` to the loss of an update.
 
-use crate::kept::folder::{Before, Folder};
+use crate::kept::folder::{Backed, Folder};
 use crate::kept::said::Said;
 use anyhow::{Result, ensure};
 use std::alloc::{AllocError, Global};
@@ -35,7 +35,7 @@ fn loses_an_update<R: Files + Threads + Wait + Sync + AllocGlobal>(
     let mut said = Said::nothing(rt.alloc());
     files.put("script", script.as_bytes())?;
     let words = ["rvtl", "replay", "lost_update.elf", "script"];
-    said.ask(rt, &words, &mut Before { folder: files, rt });
+    said.ask(rt, &words, &mut Backed { folder: files, rt });
     has_lost_an_update(&said)
 }
 

@@ -4,7 +4,7 @@ use super::breaking::Breaking;
 use super::line::{Line, add_text, halves, unescaped, words_of};
 use super::lost_update::needs_each;
 use super::stream::{Stream, exchanged};
-use crate::kept::folder::{Before, Folder};
+use crate::kept::folder::{Backed, Folder};
 use crate::kept::said::{Said, run};
 use anyhow::{Context, Result, bail, ensure};
 use std::alloc::Global;
@@ -115,7 +115,7 @@ impl Stage {
     ) -> Result<()> {
         self.begin_command(mark, text)?;
         let words = words_of(self.alloc, &self.asked)?;
-        let mut files = Before {
+        let mut files = Backed {
             folder: &mut self.files,
             rt,
         };
@@ -276,7 +276,7 @@ impl Stage {
         let mut err = Vec::new(self.alloc);
         let words = words_of(self.alloc, &self.asked)?;
         self.files.repeat_command();
-        let mut files = Before {
+        let mut files = Backed {
             folder: &mut self.files,
             rt,
         };
