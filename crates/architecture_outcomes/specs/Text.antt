@@ -49,6 +49,7 @@ rows_text longest = codes ", rows over " ++ (decimal longest ++ codes " instruct
 abbrev pub reach_text : Reach → ℕ → List ℕ
 reach_text reach.Whole window = codes ""
 reach_text reach.WindowMet window = codes ", windows over " ++ (decimal window ++ codes " left out")
+reach_text reach.GuessMet window = codes ", some values of loads or ways of fetching on left out"
 reach_text reach.RowMet window = rows_text 10000
 reach_text reach.LimitMet window = codes ", limit of states met"
 reach_text reach.OutOfMemory window = codes ", out of memory"

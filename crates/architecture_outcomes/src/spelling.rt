@@ -118,6 +118,9 @@ fn spell_reach(into: &mut Vec<u8>, reach: Reach, window: u32) -> Result<(), Allo
             spell_number(into, u64::from(window))?;
             into.extend_from_slice(b" left out")?;
         }
+        Reach::GuessMet => {
+            into.extend_from_slice(b", some values of loads or ways of fetching on left out")?;
+        }
         Reach::RowMet => spell_rows(into, LONGEST_ROW)?,
         Reach::LimitMet => into.extend_from_slice(b", limit of states met")?,
         Reach::OutOfMemory => into.extend_from_slice(b", out of memory")?,
