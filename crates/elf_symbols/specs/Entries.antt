@@ -1,14 +1,18 @@
 -- What a symbol table names (System V Application Binary Interface, "Object Files": "Symbol Table",
 -- "String Table").
-use Rattle.std.specs.Prelude.{ℕ, ◌+◌, ◌*◌, ◌/◌, ◌%◌, ◌==◌, nat_le, nat_lt, Bool, true, false, not, ◌&&◌, if◌then◌else◌, List, [], ◌∷◌, length, slice_index, take, drop, position, Option, Some, None, option_map, option_and_then}
+use Rattle.std.specs.Prelude.{ℕ, ◌+◌, ◌*◌, ◌/◌, ◌%◌, ◌==◌, nat_eq, nat_le, nat_lt, Bool, true, false, not, ◌&&◌, if◌then◌else◌, List, [], ◌∷◌, length, slice_index, take, drop, position, Option, Some, None, option_map, option_and_then}
 use Rattle.std.specs.Char.{is_ascii_graphic}
-use Rattle.std.specs.List.{filter_map, list_all, range_with_len}
+use Rattle.std.specs.List.{filter_map, list_all, range_with_len, starts_with}
 use Rattle.elf_symbols.specs.Named.{Named}
 use Rattle.elf_loader.specs.Elf.{half_at, long_at}
 
--- printable, and none that begins with $, as mapping symbols ($x) do, which mark what stands there instead of naming it
+-- .L
+abbrev pub local_start : List ℕ
+local_start = 46 ∷ 76 ∷ []
+
+-- printable, and none that begins with $, as mapping symbols ($x) do, which mark what stands there instead of naming it, or with .L, as an assembler's own labels do (.Lpcrel_hi0)
 abbrev pub is_told : List ℕ → Bool
-is_told name = nat_lt 0 (length name) && not (slice_index name 0 == 36) && list_all is_ascii_graphic name
+is_told name = nat_lt 0 (length name) && not (slice_index name 0 == 36) && not (starts_with nat_eq name local_start) && list_all is_ascii_graphic name
 
 abbrev pub told : List ℕ → Option (List ℕ)
 told name = if is_told name then Some name else None

@@ -57,11 +57,15 @@ fn is_graphic(name: &[u8]) -> bool
     name.iter().all(|byte| byte.is_ascii_graphic())
 }
 
-/// Whether a name can be told: one or more printable characters, and no mapping symbol's.
+/// How the names of the labels begin that an assembler makes.
+const LOCAL_START: [u8; 2] = *b".L";
+
+/// Whether a name is to be told: one or more printable characters, no mapping symbol's and no label's that an assembler
+/// made.
 fn is_told(name: &[u8]) -> bool
     ensures { result ≡ entries.is_told name.now }
 {
-    !name.is_empty() && name[0] != b'$' && is_graphic(name)
+    !name.is_empty() && name[0] != b'$' && !name.starts_with(&LOCAL_START) && is_graphic(name)
 }
 
 /// The bytes from this place on.
