@@ -57,24 +57,6 @@ impl LogRule {
             LogRule::ReleaseAlone => "release-alone",
         }
     }
-
-    /// What stands against an entry that breaks the rule, in words.
-    pub fn objection(self) -> &'static str {
-        match self {
-            LogRule::InOrder => "its queue is empty, or has another message in front",
-            LogRule::Question => "no question that was taken is left for it to answer",
-            LogRule::Permission => "the Acquire that it answers asked for another permission",
-            LogRule::Data =>
-                "a Grant is without data exactly where its Acquire was BtoT and the copy wasn't lost meanwhile",
-            LogRule::AcquireOnce =>
-                "the Grant of the hart's earlier Acquire of this line wasn't taken yet",
-            LogRule::ProbeOnce =>
-                "the ProbeAck of the earlier Probe of this line to the hart wasn't taken yet",
-            LogRule::GrantAlone => "a GrantAck or a ProbeAck of this line wasn't taken yet",
-            LogRule::ReleaseAlone =>
-                "the ReleaseAck of the hart's Release of this line, or the Grant of its Acquire, wasn't taken yet",
-        }
-    }
 }
 
 impl Display for LogRule {

@@ -40,21 +40,26 @@ impl Objection {
 
     // What stood against the entry.
     fn put_cause<W: fmt::Write>(&self, f: &mut fmt::Formatter<W>) -> fmt::Result {
-        match (self.rule, self.awaited) {
-            (LogRule::InOrder, _) => put_front(self.front, self.entry.message, f),
-            (LogRule::GrantAlone, Some(awaited)) => {
-                write!(f, "{awaited} of this line wasn't taken yet")
-            }
-            (LogRule::ReleaseAlone, _) if self.awaits_release_ack => {
-                f.write_str(
-                    "the ReleaseAck of the hart's earlier Release of this line wasn't taken yet",
-                )
-            }
-            (LogRule::ReleaseAlone, _) => {
-                f.write_str("the Grant of the hart's Acquire of this line wasn't taken yet")
-            }
-            _ => f.write_str(self.rule.objection()),
-        }
+        let cause = match self.rule {
+            LogRule::InOrder => return put_front(self.front, self.entry.message, f),
+            LogRule::Question => "no question that was taken is left for it to answer",
+            LogRule::Permission => "the Acquire that it answers asked for another permission",
+            LogRule::Data =>
+                "a Grant is without data exactly where its Acquire was BtoT and the copy wasn't lost meanwhile",
+            LogRule::AcquireOnce =>
+                "the Grant of the hart's earlier Acquire of this line wasn't taken yet",
+            LogRule::ProbeOnce =>
+                "the ProbeAck of the earlier Probe of this line to the hart wasn't taken yet",
+            LogRule::GrantAlone => match self.awaited {
+                Some(awaited) => return write!(f, "{awaited} of this line wasn't taken yet"),
+                None => "a GrantAck or a ProbeAck of this line wasn't taken yet",
+            },
+            LogRule::ReleaseAlone if self.awaits_release_ack =>
+                "the ReleaseAck of the hart's earlier Release of this line wasn't taken yet",
+            LogRule::ReleaseAlone =>
+                "the Grant of the hart's Acquire of this line wasn't taken yet",
+        };
+        f.write_str(cause)
     }
 }
 
