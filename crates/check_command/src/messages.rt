@@ -7,7 +7,7 @@ ghost use Rattle.check_command.specs.Messages.{IsLogCutOff, IsLogFault, IsLogJud
 ghost use Rattle.command_files.specs.Faults.{LeavesAtFault};
 
 use crate::reading::whole_trace;
-use command_files::{Escaped, Fault, Files, text_in};
+use command_files::{Escaped, Fault, Files, remark, text_in};
 use lawful_log::{LogVerdict, check_log};
 use log_text::{Objection, end_text, line_of_message, put_verdict};
 use std::alloc::Global;
@@ -39,6 +39,13 @@ pub fn check_messages<'a, F: Files, O: Write, E: Write>(
     let Ok(verdict) = check_log(alloc, trace.log()) else {
         return Err(Fault::OutOfMemory);
     };
+    if trace.log().is_empty() {
+        remark(
+            alloc,
+            files,
+            "no M line stands in it, so nothing was judged",
+        );
+    }
     if let Err(error) = print(verdict, out) {
         return Err(Fault::writing(error));
     }

@@ -291,7 +291,7 @@ fn limit<'a>(alloc: Global) -> Arg<'a>
         "N",
         "1000000",
         LIMIT_RANGE,
-        "how many events the harts may try before the run ends",
+        "how many events the harts may try before the run ends, 1 to 1000000000",
     )
 }
 
@@ -305,7 +305,7 @@ fn states<'a>(alloc: Global) -> Arg<'a>
         "LIMIT",
         "4000000",
         LIMIT_RANGE,
-        "how many states the search may meet before it ends",
+        "how many states the search may meet before it ends, 1 to 1000000000",
     )
 }
 
@@ -319,7 +319,7 @@ fn sample<'a>(alloc: Global) -> Arg<'a>
         "RUNS",
         "0",
         SAMPLE_RANGE,
-        "make so many random runs in place of a search, where it isn't 0",
+        "make so many random runs, to 1000000000, in place of a search, where it isn't 0",
     )
 }
 
@@ -333,7 +333,7 @@ fn seed<'a>(alloc: Global) -> Arg<'a>
         "S",
         "1",
         (0, MOST),
-        "what the random runs begin from: the same number makes the same runs",
+        "what the random runs begin from, 0 to 4294967295: the same number makes the same runs",
     )
 }
 
@@ -347,7 +347,7 @@ fn window<'a>(alloc: Global) -> Arg<'a>
         "N",
         "16",
         WINDOW_RANGE,
-        "how many operations of a hart may wait at a time, with --architecture",
+        "how many operations of a hart may wait at a time, 1 to 64, with --architecture",
     )
 }
 

@@ -5,6 +5,9 @@ use crate::kind::Kind;
 use elf_loader::LoadError;
 use std::fmt::{self, Display, Formatter};
 
+/// By how many bytes a text is told.
+const FIRST: usize = 64;
+
 /// What is wrong with the bytes of a program, which was refused so.
 #[derive(Clone, Copy, Debug)]
 pub struct ImageRemark<'a> {
@@ -26,6 +29,8 @@ impl Display for ImageRemark<'_> {
         }
         if self.is_raw {
             bare(self.error, f)
+        } else if is_text(self.bytes) {
+            f.write_str("this is text, and a program is wanted: assemble and link it")
         } else if kind.is_none() {
             f.write_str("this is no ELF file: bare words take --raw")
         } else {
@@ -33,6 +38,11 @@ impl Display for ImageRemark<'_> {
             write!(f, "{}", ElfRemark { bytes, error })
         }
     }
+}
+
+/// Whether the file begins as a text in ASCII does.
+fn is_text(bytes: &[u8]) -> bool {
+    bytes.iter().take(FIRST).all(|byte| byte.is_ascii_graphic() || byte.is_ascii_whitespace())
 }
 
 fn bare<W: fmt::Write>(error: LoadError, f: &mut Formatter<W>) -> fmt::Result {

@@ -115,7 +115,7 @@ fn has_padded(line: &[u8]) -> bool {
 // How the second line of a trace is written whose first line is this text's.
 fn sizes_of(bytes: &[u8]) -> &'static str {
     if bytes.starts_with(b"rvtl-trace 1") {
-        "`T HARTS KIB ENTRY` is wanted, with HARTS 1 to 4, KIB a multiple of 4 from 4 to 1024, ENTRY a word in memory such as 0x80000000"
+        "`T HARTS KIB ENTRY` is wanted, with HARTS 1 to 4, KIB a multiple of 4 from 4 to 1024, ENTRY a word in memory such as 0x80000000 (`rvtl-trace 2` has 5 to 8 harts, and lines of 64 bytes)"
     } else {
         "`T HARTS KIB ENTRY LINE` is wanted, with HARTS 1 to 8, KIB a multiple of 4 from 4 to 1024, ENTRY a word in memory such as 0x80000000, LINE 16 (of 5 harts or more) or 64"
     }

@@ -172,7 +172,7 @@ const TRACES: [(&str, &str); 49] = [
     ),
     (
         "rvtl-trace 1\nT 1 4\n",
-        "`T HARTS KIB ENTRY` is wanted, with HARTS 1 to 4, KIB a multiple of 4 from 4 to 1024, ENTRY a word in memory such as 0x80000000, not `T 1 4`",
+        "`T HARTS KIB ENTRY` is wanted, with HARTS 1 to 4, KIB a multiple of 4 from 4 to 1024, ENTRY a word in memory such as 0x80000000 (`rvtl-trace 2` has 5 to 8 harts, and lines of 64 bytes), not `T 1 4`",
     ),
     (
         "rvtl-trace 1\nT 1 4 0x80000000\nH 0 run",
@@ -396,8 +396,13 @@ const FLOATING: [u8; 52] = [
 ];
 
 /// Programs that are refused, whether as bare words, and what is remarked of each.
-const IMAGES: [(&[u8], bool, &str); 5] = [
+const IMAGES: [(&[u8], bool, &str); 6] = [
     (&[0; 4], false, "this is no ELF file: bare words take --raw"),
+    (
+        b"_start:\n\tli a7, 0\n",
+        false,
+        "this is text, and a program is wanted: assemble and link it",
+    ),
     (
         b"rvtl-script 1 1 4 4 2\n",
         true,
