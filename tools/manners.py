@@ -51,6 +51,23 @@ def reader_goes_away(rvtl, folder):
     tell("a reader that goes away", child.wait() == 1 and err == b"", err)
 
 
+def over_the_program(rvtl, folder):
+    """A journal isn't written over the program, whatever its name."""
+    program = os.path.join(folder, "kept.bin")
+    with open(IMAGE, "rb") as file:
+        words = file.read()
+    with open(program, "wb") as file:
+        file.write(words)
+    link = os.path.join(folder, "link.bin")
+    os.link(program, link)
+    for name, image in [("a journal over the program", program), ("over a link to it", link), ("over standard input", "-")]:
+        with open(program, "rb") as file:
+            ends(name, [rvtl, "run", "--raw", "--journal", program, image], 1,
+                 [f"rvtl: {program}: cannot write", "note: this is the program: name another file for --journal"], stdin=file)
+    with open(program, "rb") as file:
+        tell("the program stays", file.read() == words, program)
+
+
 def interrupted(rvtl, folder):
     """A run that is interrupted leaves no journal, and says nothing."""
     journal = os.path.join(folder, "interrupted.script")
@@ -127,8 +144,13 @@ def main():
         ends("no such file", [*read_script, f"{folder}/no"], 1,
              [f"rvtl: {folder}/no: cannot read", "note: there is no such file or folder"])
         journal = f"{folder}/no/j"
-        ends("a journal in no folder", [rvtl, "run", "--raw", "--journal", journal, IMAGE], 1,
+        begun = time.monotonic()
+        ends("a journal in no folder", [rvtl, "run", "--raw", "--limit", "1000000000", "--journal", journal, f"{folder}/spin.bin"], 1,
              [f"rvtl: {journal}: cannot write", "note: there is no such file or folder"])
+        tell("it is refused before the run", time.monotonic() < begun + 0.5, time.monotonic() - begun)
+        ends("scripts for no folder", [rvtl, "explore", "--raw", "--scripts", f"{folder}/no", IMAGE], 1,
+             [f"rvtl: {folder}/no: cannot write", f"note: {folder}/no/outcome-1.script: there is no such file or folder"])
+        over_the_program(rvtl, folder)
         scripts = f"{folder}/scripts"
         os.makedirs(f"{scripts}/outcome-1.script")
         ends("a folder in a script's place", [rvtl, "explore", "--raw", "--scripts", scripts, IMAGE], 1,

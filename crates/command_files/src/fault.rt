@@ -27,7 +27,7 @@ pub enum Unshown {
     #[error("no such symbol in IMAGE, and no number below 2^32: name another (nm lists them, none where -s linked it) or give an address")]
     NoSymbol,
     /// No aligned word of memory lies at its address.
-    #[error("no aligned word of memory: choose a multiple of 4 from 0x80000000 to the end of --memory")]
+    #[error("no aligned word of memory: choose a multiple of 4 from 0x80000000 to the end of --memory (hexadecimal stands behind 0x)")]
     NoWord,
 }
 
@@ -173,6 +173,7 @@ impl<'a> Fault<'a> {
         }
     }
 
+    /// The file is no text of its kind. Want of memory tells no file.
     pub fn text(file: &'a str, error: TextError) -> Fault<'a>
         ensures told { (result ≡ Fault.Text file.entry error) ⊎ (result ≡ Fault.OutOfMemory) }
         ensures memory { (result ≡ Fault.OutOfMemory) ↔ (error.code ≡ TextCode.NoMemory) }
@@ -183,6 +184,7 @@ impl<'a> Fault<'a> {
         }
     }
 
+    /// The file is no image. Want of memory tells no file.
     pub fn image(file: &'a str, error: LoadError) -> Fault<'a>
         ensures told { (result ≡ Fault.Image file.entry error) ⊎ (result ≡ Fault.OutOfMemory) }
         ensures memory { (result ≡ Fault.OutOfMemory) ↔ (error ≡ LoadError.NoMemory) }
@@ -193,6 +195,7 @@ impl<'a> Fault<'a> {
         }
     }
 
+    /// The file's trace isn't judged. Want of memory tells no file.
     pub fn check(file: &'a str, error: CheckError) -> Fault<'a>
         ensures told { (result ≡ Fault.Check file.entry error) ⊎ (result ≡ Fault.OutOfMemory) }
         ensures memory { (result ≡ Fault.OutOfMemory) ↔ (error ≡ CheckError.NoMemory) }

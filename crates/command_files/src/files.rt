@@ -17,10 +17,24 @@ pub trait Files {
         ensures reader { IfOk result (λ reader. IsUnread (held self.old name.now) (Self.Reader.remaining reader)) }
         ensures stays { held self.new ≡ held self.old };
 
+    /// Whether the two names are of one file, as far as that can be told.
+    fn are_same(&mut self, one: &str, other: &str) -> bool
+        ensures stays { held self.new ≡ held self.old }
+    {
+        one == other
+    }
+
     /// Makes a file of these bytes, in place of the one that has the name.
     fn write(&mut self, name: &str, bytes: &[u8]) -> io::Result<()>
         ensures written { OnOk result (HoldsBytes (held self.new) name.now bytes.now) }
         ensures others { (other : List ℕ) → other ≢ name.now → held self.new other ≡ held self.old other };
+
+    /// Tells why a file of this name can't be made, as far as that shows before it is written.
+    fn check_writable(&mut self, _name: &str) -> io::Result<()>
+        ensures stays { held self.new ≡ held self.old }
+    {
+        Ok(())
+    }
 
     /// Is told, in words of one line, what a user may want to know of a file beside the fault.
     fn remark(&mut self, _remark: String)

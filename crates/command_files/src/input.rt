@@ -82,11 +82,31 @@ impl<R: Input, F: Files + Drop> Files for WithInput<'_, R, F> {
         Ok(Source::new(Kind::Input(self.rt.reader())))
     }
 
+    fn are_same(&mut self, one: &str, other: &str) -> bool {
+        self.files.are_same(path_of(one), path_of(other))
+    }
+
     fn write(&mut self, name: &str, bytes: &[u8]) -> io::Result<()> {
-        if name == NAME {
-            let message = "standard input is not written";
-            return Err(io::Error::new(ErrorKind::InvalidInput, message));
-        }
+        refuse_input(name)?;
         self.files.write(name, bytes)
     }
+
+    fn check_writable(&mut self, name: &str) -> io::Result<()> {
+        refuse_input(name)?;
+        self.files.check_writable(name)
+    }
+}
+
+/// The path of the file of this name: standard input has one too.
+fn path_of(name: &str) -> &str {
+    if name == NAME { "/dev/stdin" } else { name }
+}
+
+/// Refuses to write standard input.
+fn refuse_input(name: &str) -> io::Result<()> {
+    if name == NAME {
+        let message = "standard input is not written";
+        return Err(io::Error::new(ErrorKind::InvalidInput, message));
+    }
+    Ok(())
 }

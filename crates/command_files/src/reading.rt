@@ -136,6 +136,21 @@ fn unread<'a, F: Files>(alloc: Global, files: &mut F, name: &'a str, error: io::
     Fault::reading(name, error)
 }
 
+/// Refuses a name of which no file can be made, as far as that shows before there is something to write.
+pub fn check_writable<'a, F: Files>(
+    alloc: Global,
+    files: &mut F,
+    name: &'a str,
+) -> Result<(), Fault<'a>>
+    ensures told { IfErr result (λ fault. (fault ≡ Fault.CannotMake name.entry) ⊎ (fault ≡ Fault.OutOfMemory)) }
+    ensures stays { F.held files.new ≡ F.held files.old }
+{
+    match files.check_writable(name) {
+        Ok(()) => Ok(()),
+        Err(error) => Err(unmade(alloc, files, name, error)),
+    }
+}
+
 /// A file could not be made or written, and why is remarked.
 pub fn unmade<'a, F: Files>(
     alloc: Global,
@@ -153,6 +168,7 @@ pub fn unmade<'a, F: Files>(
     Fault::making(name, error)
 }
 
+/// The script that the file holds. Where it holds none, what is wrong with the line is remarked.
 pub fn script_in<'a, F: Files>(
     alloc: Global,
     files: &mut F,

@@ -47,8 +47,16 @@ impl<F: Files + Drop> Files for Remarked<F> {
         self.files.open(name)
     }
 
+    fn are_same(&mut self, one: &str, other: &str) -> bool {
+        self.files.are_same(one, other)
+    }
+
     fn write(&mut self, name: &str, bytes: &[u8]) -> io::Result<()> {
         self.files.write(name, bytes)
+    }
+
+    fn check_writable(&mut self, name: &str) -> io::Result<()> {
+        self.files.check_writable(name)
     }
 
     fn remark(&mut self, remark: String) {

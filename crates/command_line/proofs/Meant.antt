@@ -131,9 +131,9 @@ written held left IsWritten spares name changed = elim (spares name) [
 pub unwritten : (held left : Contents) (IsWritten : Text → Type 0) → left ≡ held → (name : Text) → left name ≢ held name → IsWritten name
 unwritten held left IsWritten same name changed = absurd (changed (ap (λ (h : Contents). h name) same))
 
--- none but the journal
-pub journal_alone : (held left : Contents) (journal : Text) → ((other : Text) → other ≢ journal → left other ≡ held other) → (name : Text) → left name ≢ held name → name ≡ journal
-journal_alone held left journal others name changed = go (bytes_eq name journal) refl
+-- none but the journal, where the program stays
+pub journal_alone : (held left : Contents) (journal program : Text) → ((other : Text) → other ≢ journal → left other ≡ held other) → left program ≡ held program → (name : Text) → left name ≢ held name → (name ≡ journal) × (name ≢ program)
+journal_alone held left journal program others stays name changed = (go (bytes_eq name journal) refl, λ is. changed (subst (λ (n : Text). left n ≡ held n) (sym is) stays))
   where
     go : (b : Bool) → bytes_eq name journal ≡ b → name ≡ journal
     go true same = (bytes_eq-Decides name journal).0 same

@@ -194,9 +194,9 @@ MeetsSomeState (Explore explore) = 0 < explore.states
 MeetsSomeState (Show show) = 0 < show.explore.states
 MeetsSomeState _ = Unit {0}
 
--- the file is the journal of a run, or shows an outcome of an exploration, or how it gets stuck
+-- the file is the journal of a run, and not its program, or shows an outcome of an exploration, or how it gets stuck
 abbrev pub IsWritten : Text → Settings → Type 0
-IsWritten name (Run run) = name ≡ run.journal.now
+IsWritten name (Run run) = (name ≡ run.journal.now) × (name ≢ run.image.now)
 IsWritten name (Explore explore) = IsExploreFile explore.architecture explore name
 IsWritten name (Show show) = IsExploreFile show.explore.architecture show.explore name
 IsWritten name _ = ⊥

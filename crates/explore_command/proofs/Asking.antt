@@ -26,7 +26,7 @@ module _ (held first : Contents) (explore : Explore) (words : List Name) (image 
   -- a word that can't be shown is told
   pub unshown_told : (fault : Fault) → IsUnshown image symbols words fault → IsAskingFault held explore words fault
   unshown_told fault (inl (word, first, unplaced)) = inr (record { image = image; symbols = symbols; image_file = image_file; word = word; first = first; unplaced = unplaced })
-  unshown_told fault (inr memory) = inl (subst (IsFirstFault held explore) (sym memory) (inr (inr tt)))
+  unshown_told fault (inr memory) = inl (subst (IsFirstFault held explore) (sym memory) (inr (inl (inr tt))))
 
 unplaced_is : (image : Initial) (symbols : List Named) (word : Name) (fault : Fault) → IsUnplaced image symbols word fault → (cause : Unshown) × (fault ≡ CannotShow word cause)
 unplaced_is image symbols word fault (inl (none, is)) = (_, is)

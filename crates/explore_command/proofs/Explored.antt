@@ -13,7 +13,7 @@ use Rattle.elf_loader.specs.Image.{Initial}
 use Rattle.exploration_text.specs.Text.{exploration_text, harts_text}
 use Rattle.explore_command.specs.Exploring.{IsAllowFile, IsExploreFault, IsExplorationTold, IsFoundIn, ExplorationHas, ExplorationRefusals, LeavesPart}
 use Rattle.explore_command.specs.Judging.{HaveRefusals, IsJudged, judgement_of_lines}
-use Rattle.explore_command.specs.Keeping.{AreKept, IsInNamed, IsScriptOf, SparesOthers}
+use Rattle.explore_command.specs.Keeping.{AreKept, HasName, IsInNamed, IsScriptOf, SparesOthers}
 use Rattle.explore_command.specs.declared.judging.Judgement.{Judgement}
 use Rattle.explore_command.specs.declared.judging.Judgement.TheVariants.{Allowed}
 use Rattle.explorer.specs.Ends.{outcome_of}
@@ -74,16 +74,17 @@ module _ (held : Contents) (wanted : Explore) (config : Config) (image : Initial
   pub has : (P : List ℕ → Type 0) → P (exploration_text found) → ExplorationHas held wanted P
   has P so = record { image = image; exploration = found; image_file = file; inside = inside; found = is_found; of_text = so }
 
-  pub whole : (old new : Option (List ℕ)) (left : Contents) (judgement : Judgement) → Appends old new (exploration_text found) → IfSome wanted.scripts (λ folder. AreKept left config wanted.machine.memory folder.now found)
+  pub whole : (old new : Option (List ℕ)) (left : Contents) (judgement : Judgement) → Appends old new (exploration_text found) → HasName wanted.scripts → IfSome wanted.scripts (λ folder. AreKept left config wanted.machine.memory folder.now found)
       → SparesOthers (IsInNamed wanted.scripts (IsScriptOf (length found.outcomes.items) found.stuck)) held left
       → IsJudged held wanted.allow (map (λ f. harts_text 0 (outcome_of f)) found.outcomes.items) judgement → (judgement ≡ Allowed → found.extent ≢ extent.OutOfMemory) → IsExplorationTold held left wanted judgement old new
-  whole old new left judgement told kept spares by memory = record {
+  whole old new left judgement told named kept spares by memory = record {
     image = image;
     exploration = found;
     image_file = file;
     inside = inside;
     found = is_found;
     printed = told;
+    named = named;
     kept = subst (λ (c : Config). IfSome wanted.scripts (λ folder. AreKept left c wanted.machine.memory folder.now found)) config_is kept;
     spared = spares;
     judged = by;

@@ -75,27 +75,7 @@ reading_left held explore BadEvent old new Has so same = same
 reading_left held explore Configuration old new Has so same = same
 reading_left held explore OutOfMemory old new Has so same = inl same
 
-pub first_told : (held : Contents) (explore : Explore) (fault : Fault) → IsFirstFault held explore fault → IsExploreFault held explore fault
-first_told held explore fault (inl at) = subst (IsExploreFault held explore) (sym at.0) at.1
-first_told held explore fault (inr so) = reading_told held explore fault so
-
-pub first_left : (held : Contents) (explore : Explore) (fault : Fault) (old new : Option (List ℕ)) (Has : (List ℕ → Type 0) → Type 0) → IsFirstFault held explore fault → new ≡ old → LeavesPart fault old new Has
-first_left held explore fault old new Has (inl at) same = subst (λ f. LeavesPart f old new Has) (sym at.0) same
-first_left held explore fault old new Has (inr so) same = reading_left held explore fault old new Has so same
-
--- ---- the output and the folder
-
-pub output_told : (held : Contents) (explore : Explore) (fault : Fault) → (fault ≡ CannotWrite) ⊎ (fault ≡ OutOfMemory) → IsExploreFault held explore fault
-output_told held explore fault is = elim is [
-  | inl at ↦ subst (IsExploreFault held explore) (sym at) tt
-  | inr at ↦ subst (IsExploreFault held explore) (sym at) tt
-]
-
-pub output_left : (fault : Fault) (old new : Option (List ℕ)) (Has : (List ℕ → Type 0) → Type 0) → (fault ≡ CannotWrite) ⊎ (fault ≡ OutOfMemory) → Has (Begins old new) → LeavesPart fault old new Has
-output_left fault old new Has is so = elim is [
-  | inl at ↦ subst (λ f. LeavesPart f old new Has) (sym at) so
-  | inr at ↦ subst (λ f. LeavesPart f old new Has) (sym at) (inr so)
-]
+-- ---- the folder
 
 folder_fault : (scripts : Option Name) (fault : Fault) → IsNamedBy scripts IsFolderFault fault → ((name : Name) × (scripts ≡ Some name) × (fault ≡ CannotMake name)) ⊎ (fault ≡ OutOfMemory)
 folder_fault None fault so = absurd so
@@ -110,10 +90,43 @@ folder_told held explore fault so = elim (folder_fault explore.scripts fault so)
   | inr at ↦ subst (IsExploreFault held explore) (sym at) tt
 ]
 
+-- before the search nothing was printed
+folder_unbegun : (explore : Explore) (fault : Fault) (old new : Option (List ℕ)) (Has : (List ℕ → Type 0) → Type 0) → IsNamedBy explore.scripts IsFolderFault fault → new ≡ old → LeavesPart fault old new Has
+folder_unbegun explore fault old new Has so same = elim (folder_fault explore.scripts fault so) [
+  | inl at ↦ subst (λ f. LeavesPart f old new Has) (sym at.2) (inl same)
+  | inr at ↦ subst (λ f. LeavesPart f old new Has) (sym at) (inl same)
+]
+
 pub folder_left : (explore : Explore) (fault : Fault) (old new : Option (List ℕ)) (Has : (List ℕ → Type 0) → Type 0) → IsNamedBy explore.scripts IsFolderFault fault → Has (Begins old new) → Has (Appends old new) → LeavesPart fault old new Has
 folder_left explore fault old new Has so begun whole = elim (folder_fault explore.scripts fault so) [
-  | inl at ↦ subst (λ f. LeavesPart f old new Has) (sym at.2) whole
+  | inl at ↦ subst (λ f. LeavesPart f old new Has) (sym at.2) (inr whole)
   | inr at ↦ subst (λ f. LeavesPart f old new Has) (sym at) (inr begun)
+]
+
+-- ---- what comes before the search
+
+pub first_told : (held : Contents) (explore : Explore) (fault : Fault) → IsFirstFault held explore fault → IsExploreFault held explore fault
+first_told held explore fault (inl at) = subst (IsExploreFault held explore) (sym at.0) at.1
+first_told held explore fault (inr (inl so)) = reading_told held explore fault so
+first_told held explore fault (inr (inr so)) = folder_told held explore fault so
+
+pub first_left : (held : Contents) (explore : Explore) (fault : Fault) (old new : Option (List ℕ)) (Has : (List ℕ → Type 0) → Type 0) → IsFirstFault held explore fault → new ≡ old → LeavesPart fault old new Has
+first_left held explore fault old new Has (inl at) same = subst (λ f. LeavesPart f old new Has) (sym at.0) same
+first_left held explore fault old new Has (inr (inl so)) same = reading_left held explore fault old new Has so same
+first_left held explore fault old new Has (inr (inr so)) same = folder_unbegun explore fault old new Has so same
+
+-- ---- the output
+
+pub output_told : (held : Contents) (explore : Explore) (fault : Fault) → (fault ≡ CannotWrite) ⊎ (fault ≡ OutOfMemory) → IsExploreFault held explore fault
+output_told held explore fault is = elim is [
+  | inl at ↦ subst (IsExploreFault held explore) (sym at) tt
+  | inr at ↦ subst (IsExploreFault held explore) (sym at) tt
+]
+
+pub output_left : (fault : Fault) (old new : Option (List ℕ)) (Has : (List ℕ → Type 0) → Type 0) → (fault ≡ CannotWrite) ⊎ (fault ≡ OutOfMemory) → Has (Begins old new) → LeavesPart fault old new Has
+output_left fault old new Has is so = elim is [
+  | inl at ↦ subst (λ f. LeavesPart f old new Has) (sym at) so
+  | inr at ↦ subst (λ f. LeavesPart f old new Has) (sym at) (inr so)
 ]
 
 -- ---- what is told before scripts are written
@@ -130,7 +143,8 @@ memory_late fault is early = subst ComesBeforeScripts is early
 -- whatever the fault, nothing was printed or a part
 pub some_part : (old new : Option (List ℕ)) (Has : (List ℕ → Type 0) → Type 0) (fault : Fault) → (Has (Appends old new) → Has (Begins old new)) → LeavesPart fault old new Has → (new ≡ old) ⊎ Has (Begins old new)
 some_part old new Has (CannotRead file) begin so = inl so
-some_part old new Has (CannotMake file) begin so = inr (begin so)
+some_part old new Has (CannotMake file) begin (inl same) = inl same
+some_part old new Has (CannotMake file) begin (inr whole) = inr (begin whole)
 some_part old new Has CannotWrite begin so = inr so
 some_part old new Has (Image file error) begin so = inl so
 some_part old new Has (Text file error) begin so = inl so

@@ -1,5 +1,5 @@
 -- What is known of random runs, and what they leave.
-use Rattle.std.proofs.Common.{◌≡◌, ◌≤◌, ℕ, IfSome, List, Option, arith, length, map, subst}
+use Rattle.std.proofs.Common.{◌≡◌, ◌∙◌, ◌≤◌, ℕ, IfSome, List, Option, arith, false, length, map, subst}
 use Rattle.std.specs.Io.KnownBytes.{Appends}
 use Rattle.command_files.specs.Files.{HoldsImage}
 use Rattle.command_files.specs.Contents.{Contents}
@@ -9,7 +9,7 @@ use Rattle.elf_loader.specs.Image.{Initial}
 use Rattle.exploration_text.specs.Sampling.{sampled_text}
 use Rattle.exploration_text.specs.Text.{harts_text}
 use Rattle.explore_command.specs.Judging.{HaveRefusals, IsJudged}
-use Rattle.explore_command.specs.Keeping.{AreKeptFrom, IsInNamed, IsOutcomeScript, SparesOthers}
+use Rattle.explore_command.specs.Keeping.{AreKeptFrom, HasName, IsInNamed, IsOutcomeScript, SparesOthers}
 use Rattle.explore_command.specs.declared.judging.Judgement.{Judgement}
 use Rattle.explore_command.specs.declared.judging.Judgement.TheVariants.{Allowed}
 use Rattle.explorer.specs.Ends.{outcome_of}
@@ -28,16 +28,17 @@ module _ (held : Contents) (wanted : Explore) (runs : ℕ) (config : Config) (im
   pub has : (P : List ℕ → Type 0) → P (sampled_text found) → SampleHas held wanted runs P
   has P so = record { image = image; found = found; image_file = file; inside = inside; runs_made = are_runs; of_text = so }
 
-  pub all : (old new : Option (List ℕ)) (left : Contents) (judgement : Judgement) → Appends old new (sampled_text found) → IfSome wanted.scripts (λ folder. AreKeptFrom left config wanted.machine.memory folder.now 1 found.ends.items)
+  pub all : (old new : Option (List ℕ)) (left : Contents) (judgement : Judgement) → Appends old new (sampled_text found) → HasName wanted.scripts → IfSome wanted.scripts (λ folder. AreKeptFrom left config wanted.machine.memory folder.now 1 found.ends.items)
       → SparesOthers (IsInNamed wanted.scripts (IsOutcomeScript (length found.ends.items))) held left
       → IsJudged held wanted.allow (map (λ f. harts_text 0 (outcome_of f)) found.ends.items) judgement → (judgement ≡ Allowed → found.runs ≡ runs) → IsSampleTold held left wanted runs judgement old new
-  all old new left judgement printed kept spares by whole = record {
+  all old new left judgement printed named kept spares by whole = record {
     image = image;
     found = found;
     image_file = file;
     inside = inside;
     runs_made = are_runs;
     printed = printed;
+    named = named;
     kept = subst (λ (c : Config). IfSome wanted.scripts (λ folder. AreKeptFrom left c wanted.machine.memory folder.now 1 found.ends.items)) config_is kept;
     spared = spares;
     judged = by;
@@ -53,6 +54,7 @@ pub all_made : (made runs : ℕ) {most : ℕ} → made ≤ most → most ≡ run
 all_made made runs few same enough = omega (arith, few, same, enough)
 
 -- what is said of them, fact by fact
-pub runs_in : (image : Initial) (config : Config) (runs : ℕ) {most : ℕ} (r : Result Sampled AllocError) → most ≡ runs → IfOk r (ends.IsSampled image config) → IfOk r (λ s. s.runs ≤ most) → IfOk r (AreRuns image config runs)
-runs_in image config runs (Ok s) same sampled within = record { sampled = sampled; within = subst (λ (n : ℕ). s.runs ≤ n) same within }
-runs_in image config runs (Err error) same sampled within = tt
+pub runs_in : (image : Initial) (config : Config) (runs : ℕ) {most : ℕ} (r : Result Sampled AllocError) → most ≡ runs → IfOk r (ends.IsSampled image config) → IfOk r (λ s. s.runs ≤ most) → IfOk r (λ s. s.out_of_memory ≡ false → s.runs ≡ most)
+    → IfOk r (AreRuns image config runs)
+runs_in image config runs (Ok s) same sampled within whole = record { sampled = sampled; within = subst (λ (n : ℕ). s.runs ≤ n) same within; all_made = λ memory. whole memory ∙ same }
+runs_in image config runs (Err error) same sampled within whole = tt

@@ -16,7 +16,7 @@ use Rattle.exploration_text.specs.declared.wording.WordName.{WordName}
 use Rattle.exploration_text.specs.Words.{end_text}
 use Rattle.explore_command.specs.Exploring.{IsAllowFile}
 use Rattle.explore_command.specs.Judging.{IsToldBy, judgement_of_lines, refusals}
-use Rattle.explore_command.specs.Keeping.{IsInNamed, SparesOthers}
+use Rattle.explore_command.specs.Keeping.{HasName, IsInNamed, SparesOthers}
 use Rattle.explore_command.specs.declared.judging.Judgement.{Judgement}
 use Rattle.explore_command.specs.declared.judging.Judgement.TheVariants.{Allowed}
 use Rattle.machine_types.specs.declared.config.Config.{Config}
@@ -50,15 +50,16 @@ module _ (held : Contents) (wanted : Explore) (words : List Name) (window : ℕ)
   pub has : (P : List ℕ → Type 0) → P (architecture_text names found) → SearchHas held wanted words window P
   has P so = record { architecture = found; of_file = of_file; of_text = subst (λ (n : List WordName). P (architecture_text n found)) named so }
 
-  pub whole : (old new : Option (List ℕ)) (left : Contents) (judgement : Judgement) (text : Option (List ℕ)) → Appends old new (architecture_text names found) → IfSome wanted.scripts (λ folder. AreWaysKept left config wanted.machine.memory folder.now 1 found.outcomes.items)
+  pub whole : (old new : Option (List ℕ)) (left : Contents) (judgement : Judgement) (text : Option (List ℕ)) → Appends old new (architecture_text names found) → HasName wanted.scripts → IfSome wanted.scripts (λ folder. AreWaysKept left config wanted.machine.memory folder.now 1 found.outcomes.items)
       → SparesOthers (IsInNamed wanted.scripts (IsWayFile 1 found.outcomes.items)) held left
       → IsAllowFile held wanted.allow text → judgement ≡ judgement_of_lines text (map (λ o. end_text names (end_of o)) found.outcomes.items)
       → (judgement ≡ Allowed → (found.machine ≢ extent.OutOfMemory) × (found.reach ≢ reach.OutOfMemory)) → IsSearched held left wanted words window judgement old new
   unfolding of_file
-  whole old new left judgement text printed kept spares read by memory = record {
+  whole old new left judgement text printed folder kept spares read by memory = record {
     architecture = found;
     of_file = of_file;
     printed = subst (λ (n : List WordName). Appends old new (architecture_text n found)) named printed;
+    named = folder;
     kept = subst (λ (c : Config). IfSome wanted.scripts (λ folder. AreWaysKept left c wanted.machine.memory folder.now 1 found.outcomes.items)) config_is kept;
     spared = spares;
     judged = judged_of end_of held wanted.allow text names (names_of words) found.outcomes.items judgement named read by;

@@ -16,7 +16,7 @@ use Rattle.explore_command.proofs.Explored.{judged}
 use Rattle.explore_command.specs.Exploring.{IsAllowFile, IsExploreFault}
 use Rattle.explore_command.proofs.Refused.{refusals_in}
 use Rattle.explore_command.specs.Judging.{HaveRefusals, IsJudged, judgement_of_lines, refusals}
-use Rattle.explore_command.specs.Keeping.{AreKept, AreKeptFrom, IsInNamed, IsKeptAt, IsScriptOf, SparesOthers, stuck_path}
+use Rattle.explore_command.specs.Keeping.{AreKept, AreKeptFrom, HasName, IsInNamed, IsKeptAt, IsScriptOf, SparesOthers, stuck_path}
 use Rattle.explore_command.specs.declared.judging.Judgement.{Judgement}
 use Rattle.explore_command.specs.declared.judging.Judgement.TheVariants.{Allowed}
 use Rattle.explorer.specs.declared.exploration.Exploration.{Exploration}
@@ -88,14 +88,15 @@ module _ (held : Contents) (show : Show) (config : Config) (image : Initial) (ad
   }
 
   -- all of it was done
-  pub shown : (old new : Option (List ℕ)) (left : Contents) (judgement : Judgement) (text : Option (List ℕ)) → Appends old new (words_text names found) → IfSome show.explore.scripts (λ folder. AreWordsKept left config show.explore.machine.memory folder.now found)
+  pub shown : (old new : Option (List ℕ)) (left : Contents) (judgement : Judgement) (text : Option (List ℕ)) → Appends old new (words_text names found) → HasName show.explore.scripts → IfSome show.explore.scripts (λ folder. AreWordsKept left config show.explore.machine.memory folder.now found)
       → SparesOthers (IsInNamed show.explore.scripts (IsScriptOf (length found.outcomes.items) found.stuck)) held left → IsAllowFile held show.explore.allow text
       → judgement ≡ judgement_of_lines text (map (λ f. end_text names (ending_of f)) found.outcomes.items) → (judgement ≡ Allowed → found.extent ≢ extent.OutOfMemory) → AreWordsShown held left show judgement old new
   unfolding of_file
-  shown old new left judgement text printed kept spares read by whole = record {
+  shown old new left judgement text printed folder kept spares read by whole = record {
     exploration = found;
     of_file = of_file;
     printed = subst (λ (n : List WordName). Appends old new (words_text n found)) names_are printed;
+    named = folder;
     kept = subst (λ (c : Config). IfSome show.explore.scripts (λ folder. AreWordsKept left c show.explore.machine.memory folder.now found)) config_is kept;
     spared = spares;
     judged = judged_of ending_of held show.explore.allow text names (names_of show.words.items) found.outcomes.items judgement names_are read by;

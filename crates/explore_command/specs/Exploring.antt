@@ -13,7 +13,7 @@ use Rattle.command_settings.specs.declared.wanted.Explore.{Explore}
 use Rattle.elf_loader.specs.Image.{Initial}
 use Rattle.exploration_text.specs.Text.{exploration_text, harts_text}
 use Rattle.explore_command.specs.Judging.{HaveRefusals, IsJudged}
-use Rattle.explore_command.specs.Keeping.{AreKept, IsInNamed, IsScriptOf, SparesOthers}
+use Rattle.explore_command.specs.Keeping.{AreKept, HasName, IsInNamed, IsScriptOf, SparesOthers}
 use Rattle.explore_command.specs.declared.judging.Judgement.{Judgement}
 use Rattle.explore_command.specs.declared.judging.Judgement.TheVariants.{Allowed}
 use Rattle.explorer.specs.Ends.{IsRealIn, outcome_of, outcomes_of}
@@ -51,6 +51,7 @@ pub record IsExplorationTold (held left : Contents) (wanted : Explore) (judgemen
   pub inside : IsInside wanted.machine
   pub found : IsFoundIn image (config_named wanted.machine inside) wanted.states exploration
   pub printed : Appends old new (exploration_text exploration)
+  pub named : HasName wanted.scripts
   pub kept : IfSome wanted.scripts (λ folder. AreKept left (config_named wanted.machine inside) wanted.machine.memory folder.now exploration)
   pub spared : SparesOthers (IsInNamed wanted.scripts (IsScriptOf (length exploration.outcomes.items) exploration.stuck)) held left
   pub judged : IsJudged held wanted.allow (map (λ f. harts_text 0 (outcome_of f)) exploration.outcomes.items) judgement
@@ -95,13 +96,13 @@ IsNamedBy (Some file) IsOf fault = IsOf file fault
 abbrev pub IsReadingFault : Contents → Explore → Fault → Type 0
 IsReadingFault held explore fault = IsNamedBy explore.allow IsReadFault fault ⊎ IsImageFault held explore.raw explore.image explore.machine.memory fault
 
--- or the machine is out of limits
-abbrev pub IsFirstFault : Contents → Explore → Fault → Type 0
-IsFirstFault held explore fault = ((fault ≡ Configuration) × IsOutside explore.machine) ⊎ IsReadingFault held explore fault
-
 -- a script can't be written into the folder, or memory ran out
 abbrev pub IsFolderFault : Name → Fault → Type 0
 IsFolderFault folder fault = (fault ≡ CannotMake folder) ⊎ (fault ≡ OutOfMemory)
+
+-- or the machine is out of limits, or no script could be written into the folder that was named
+abbrev pub IsFirstFault : Contents → Explore → Fault → Type 0
+IsFirstFault held explore fault = ((fault ≡ Configuration) × IsOutside explore.machine) ⊎ (IsReadingFault held explore fault ⊎ IsNamedBy explore.scripts IsFolderFault fault)
 
 -- which faults there are, and of which file; the image is refused for the cause that is told
 abbrev pub IsExploreFault : Contents → Explore → Fault → Type 0
@@ -113,10 +114,10 @@ IsExploreFault held explore CannotWrite = Unit {0}
 IsExploreFault held explore OutOfMemory = Unit {0}
 IsExploreFault held explore _ = ⊥
 
--- what a fault leaves on standard output of the text of what was found: a beginning, where the output takes no more, all of it, where the folder takes none of the scripts, or nothing
+-- what a fault leaves on standard output of the text of what was found: a beginning, where the output takes no more, all of it, where the folder takes none of the scripts after the search, or nothing
 abbrev pub LeavesPart : Fault → Option (List ℕ) → Option (List ℕ) → ((List ℕ → Type 0) → Type 0) → Type 0
 LeavesPart CannotWrite old new Has = Has (Begins old new)
-LeavesPart (CannotMake file) old new Has = Has (Appends old new)
+LeavesPart (CannotMake file) old new Has = (new ≡ old) ⊎ Has (Appends old new)
 LeavesPart OutOfMemory old new Has = (new ≡ old) ⊎ Has (Begins old new)
 LeavesPart _ old new Has = new ≡ old
 

@@ -1,5 +1,5 @@
 -- The scripts that an exploration leaves in a folder.
-use Rattle.std.specs.Prelude.{ℕ, ◌≡◌, ◌⊎◌, ◌+◌, ◌<◌, ◌∷◌, ◌++◌, [], IfSome, IsSome, List, None, Option, Some, codes, decimal}
+use Rattle.std.specs.Prelude.{ℕ, ◌≡◌, ◌≢◌, ◌⊎◌, ◌+◌, ◌<◌, ◌∷◌, ◌++◌, [], IfSome, IsSome, List, None, Option, Some, codes, decimal}
 use Rattle.std.specs.Borrow.{Bor}
 use Rattle.command_files.specs.Files.{HoldsScript}
 use Rattle.command_files.specs.Contents.{Contents}
@@ -52,6 +52,10 @@ IsScriptOf count stuck folder name = IsOutcomeScript count folder name ⊎ (IsSo
 abbrev pub IsInNamed : Option (Bor FileName) → (FileName → FileName → Type 0) → FileName → Type 0
 IsInNamed None IsIn name = ⊥
 IsInNamed (Some folder) IsIn name = IsIn folder.now name
+
+-- the folder that was named, if one was, has a name
+abbrev pub HasName : Option (Bor FileName) → Type 0
+HasName folder = IfSome folder (λ name. name.now ≢ [])
 
 abbrev pub IsScriptFile : Option (Bor FileName) → FileName → Type 0
 IsScriptFile folder name = IsInNamed folder IsScriptIn name

@@ -1,5 +1,5 @@
 -- What random runs have told, written and judged.
-use Rattle.std.specs.Prelude.{◌≡◌, ℕ, ◌≤◌, IfSome, List, Option, length, map}
+use Rattle.std.specs.Prelude.{◌≡◌, ℕ, ◌≤◌, IfSome, List, Option, false, length, map}
 use Rattle.std.specs.Io.KnownBytes.{Appends}
 use Rattle.command_files.specs.Files.{HoldsImage}
 use Rattle.command_files.specs.Contents.{Contents}
@@ -9,7 +9,7 @@ use Rattle.elf_loader.specs.Image.{Initial}
 use Rattle.exploration_text.specs.Sampling.{sampled_text}
 use Rattle.exploration_text.specs.Text.{harts_text}
 use Rattle.explore_command.specs.Judging.{HaveRefusals, IsJudged}
-use Rattle.explore_command.specs.Keeping.{AreKeptFrom, IsInNamed, IsOutcomeScript, SparesOthers}
+use Rattle.explore_command.specs.Keeping.{AreKeptFrom, HasName, IsInNamed, IsOutcomeScript, SparesOthers}
 use Rattle.explore_command.specs.declared.judging.Judgement.{Judgement}
 use Rattle.explore_command.specs.declared.judging.Judgement.TheVariants.{Allowed}
 use Rattle.explorer.specs.Ends.{outcome_of}
@@ -17,10 +17,11 @@ use Rattle.machine_types.specs.declared.config.Config.{Config}
 use Rattle.explorer.specs.Sampled as ends
 use Rattle.explorer.specs.declared.samples.sampled.Sampled.{Sampled}
 
--- at most so many runs were made, each end is one, its script leads there, and so many came to it
+-- so many runs were made, or fewer where memory ended, each end is one, its script leads there, and so many came to it
 pub record AreRuns (image : Initial) (config : Config) (runs : ℕ) (found : Sampled) : Type 0 where
   pub sampled : ends.IsSampled image config found
   pub within : found.runs ≤ runs
+  pub all_made : found.out_of_memory ≡ false → found.runs ≡ runs
 
 -- what runs of the image in the file came to was printed, its scripts are in the folder, if one was named, and each other file is as before, and it was judged by the file that says what is allowed; it is allowed only where all runs were made
 pub record IsSampleTold (held left : Contents) (wanted : Explore) (runs : ℕ) (judgement : Judgement) (old new : Option (List ℕ)) : Type 0 where
@@ -30,6 +31,7 @@ pub record IsSampleTold (held left : Contents) (wanted : Explore) (runs : ℕ) (
   pub inside : IsInside wanted.machine
   pub runs_made : AreRuns image (config_named wanted.machine inside) runs found
   pub printed : Appends old new (sampled_text found)
+  pub named : HasName wanted.scripts
   pub kept : IfSome wanted.scripts (λ folder. AreKeptFrom left (config_named wanted.machine inside) wanted.machine.memory folder.now 1 found.ends.items)
   pub spared : SparesOthers (IsInNamed wanted.scripts (IsOutcomeScript (length found.ends.items))) held left
   pub judged : IsJudged held wanted.allow (map (λ f. harts_text 0 (outcome_of f)) found.ends.items) judgement

@@ -18,7 +18,7 @@ use Rattle.elf_loader.specs.Image.{Initial}
 use Rattle.exploration_text.specs.Words.{end_text}
 use Rattle.explore_command.specs.Exploring.{IsExploreFault}
 use Rattle.explore_command.specs.Judging.{HaveRefusals, IsJudged, IsToldBy}
-use Rattle.explore_command.specs.Keeping.{IsInNamed, SparesOthers}
+use Rattle.explore_command.specs.Keeping.{HasName, IsInNamed, SparesOthers}
 use Rattle.explore_command.specs.declared.judging.Judgement.{Judgement}
 use Rattle.explore_command.specs.declared.judging.Judgement.TheVariants.{Allowed}
 use Rattle.flat_model.specs.Flat.{Flat}
@@ -60,6 +60,7 @@ pub record IsSearched (held left : Contents) (wanted : Explore) (words : List Na
   pub architecture : Architecture
   pub of_file : IsOfFile held wanted words window architecture
   pub printed : Appends old new (architecture_text (names_of words) architecture)
+  pub named : HasName wanted.scripts
   pub kept : IfSome wanted.scripts (λ folder. AreWaysKept left (config_named wanted.machine of_file.inside) wanted.machine.memory folder.now 1 architecture.outcomes.items)
   pub spared : SparesOthers (IsInNamed wanted.scripts (IsWayFile 1 architecture.outcomes.items)) held left
   pub judged : IsJudged held wanted.allow (map (λ o. end_text (names_of words) (end_of o)) architecture.outcomes.items) judgement

@@ -15,7 +15,7 @@ use Rattle.elf_loader.specs.Image.{Initial}
 use Rattle.exploration_text.specs.Words.{end_text, words_text}
 use Rattle.explore_command.specs.Exploring.{IsExploreFault}
 use Rattle.explore_command.specs.Judging.{HaveRefusals, IsJudged}
-use Rattle.explore_command.specs.Keeping.{IsInNamed, IsScriptOf, SparesOthers}
+use Rattle.explore_command.specs.Keeping.{HasName, IsInNamed, IsScriptOf, SparesOthers}
 use Rattle.explore_command.specs.declared.judging.Judgement.{Judgement}
 use Rattle.explore_command.specs.declared.judging.Judgement.TheVariants.{Allowed}
 use Rattle.flat_model.specs.Flat.{Flat}
@@ -59,6 +59,7 @@ pub record AreWordsShown (held left : Contents) (show : Show) (judgement : Judge
   pub exploration : WordExploration
   pub of_file : IsOfFile held show exploration
   pub printed : Appends old new (words_text (names_of show.words.items) exploration)
+  pub named : HasName show.explore.scripts
   pub kept : IfSome show.explore.scripts (λ folder. AreWordsKept left (config_named show.explore.machine of_file.inside) show.explore.machine.memory folder.now exploration)
   pub spared : SparesOthers (IsInNamed show.explore.scripts (IsScriptOf (length exploration.outcomes.items) exploration.stuck)) held left
   pub judged : IsJudged held show.explore.allow (map (λ f. end_text (names_of show.words.items) (ending_of f)) exploration.outcomes.items) judgement

@@ -6,7 +6,9 @@ ghost use Rattle.command_files.specs.Files.{HoldsImage};
 ghost use Rattle.command_files.specs.Sizes.{IsInside, IsOutside, config_named};
 ghost use Rattle.elf_loader.specs.Size.{IsMemoryKib};
 ghost use Rattle.explore_command.specs.Exploring.{IsAllowFile, IsFirstFault, IsNamedBy};
+ghost use Rattle.explore_command.specs.Keeping.{HasName};
 
+use crate::keeping::check_folder;
 use command_files::{Fault, Files, contents, image_in, named_config, out_of_limits};
 use command_settings::Explore;
 use elf_loader::Image;
@@ -23,7 +25,8 @@ pub(crate) struct Asked {
 }
 
 impl Asked {
-    /// Judges the machine's size, then reads the file that says what is allowed, if one was named, then the image.
+    /// Judges the machine's size, then reads the file that says what is allowed, if one was named, then the image, and
+    /// looks whether the folder for scripts, if one was named, may have them.
     pub fn read<'a, F: Files>(
         alloc: Global,
         files: &mut F,
@@ -33,6 +36,7 @@ impl Asked {
         ensures memory { IfOk result (λ asked. IsMemoryKib wanted.entry.machine.memory) }
         ensures image { IfOk result (λ asked. HoldsImage (F.held files.old) wanted.entry.raw wanted.entry.image.now wanted.entry.machine.memory asked.image) }
         ensures allowed { IfOk result (λ asked. IsAllowFile (F.held files.old) wanted.entry.allow (option_map (λ bytes. bytes.items) asked.allowed)) }
+        ensures named { IfOk result (λ _. HasName wanted.entry.scripts) }
         ensures outside { IsOutside wanted.entry.machine → result ≡ Err Fault.Configuration }
         ensures told { IfErr result (IsFirstFault (F.held files.old) wanted.entry) }
         ensures stays { F.held files.new ≡ F.held files.old }
@@ -48,6 +52,7 @@ impl Asked {
             wanted.image,
             wanted.machine.memory,
         )?;
+        check_folder(alloc, files, wanted, config)?;
         Ok(Asked {
             config,
             image,

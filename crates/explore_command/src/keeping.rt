@@ -7,7 +7,7 @@ ghost use Rattle.command_files.specs.Contents.{Contents, HoldsBytes};
 ghost use Rattle.command_files.specs.Sizes.{script_for};
 ghost use Rattle.elf_loader.specs.Size.{IsMemoryKib};
 ghost use Rattle.explore_command.specs.Exploring.{IsFolderFault, IsNamedBy};
-ghost use Rattle.explore_command.specs.Keeping.{AreKept, AreKeptFrom, FileName, IsInNamed, IsKeptAt, IsOutcomeScript, IsScriptOf, SparesOthers, outcome_path, stuck_path};
+ghost use Rattle.explore_command.specs.Keeping.{AreKept, AreKeptFrom, FileName, HasName, IsInNamed, IsKeptAt, IsOutcomeScript, IsScriptOf, SparesOthers, outcome_path, stuck_path};
 ghost use Rattle.machine_types.specs.declared.config.Config.{Config};
 ghost use Rattle.trace_text.specs.Scripts.{text};
 
@@ -85,12 +85,10 @@ pub(crate) fn keep<'a, T: Keepable, F: Files>(
     ensures kept { OnOk result (IfSome wanted.entry.scripts (λ folder. T.AreKept found.now (F.held files.new) config wanted.entry.machine.memory folder.now)) }
     ensures told { IfErr result (IsNamedBy wanted.entry.scripts IsFolderFault) }
     ensures spared { SparesOthers (IsInNamed wanted.entry.scripts (T.IsFileOf found.now)) (F.held files.old) (F.held files.new) }
-    ensures named { OnOk result (IfSome wanted.entry.scripts (λ folder. folder.now ≢ [])) }
 {
     let Some(name) = wanted.scripts else {
         return Ok(());
     };
-    refuse_unnamed(alloc, files, name)?;
     let folder = Folder {
         alloc,
         name,
@@ -100,24 +98,49 @@ pub(crate) fn keep<'a, T: Keepable, F: Files>(
     found.keep_in(folder, files)
 }
 
-/// Refuses a folder without a name: its files would stand in the root folder.
-pub(crate) fn refuse_unnamed<'a, F: Files>(
+/// Refuses the folder that was named, if one was, where no script could be written into it, as far as that shows
+/// before a search, which may be long.
+pub(crate) fn check_folder<'a, F: Files>(
     alloc: Global,
     files: &mut F,
-    name: &'a str,
+    wanted: Explore<'a>,
+    config: Config,
 ) -> Result<(), Fault<'a>>
-    ensures named { OnOk result (name.entry.now ≢ []) }
-    ensures told { IfErr result (IsFolderFault name.entry) }
+    ensures named { OnOk result (HasName wanted.entry.scripts) }
+    ensures told { IfErr result (IsNamedBy wanted.entry.scripts IsFolderFault) }
     ensures stays { F.held files.new ≡ F.held files.old }
 {
-    if name.is_empty() {
-        remark(alloc, files, NO_NAME);
-        return Err(Fault::CannotMake { file: name });
-    }
-    Ok(())
+    let Some(name) = wanted.scripts else {
+        return Ok(());
+    };
+    let folder = Folder {
+        alloc,
+        name,
+        config,
+        kib: wanted.machine.memory,
+    };
+    folder.check(files)
 }
 
 impl<'a> Folder<'a> {
+    /// Refuses a folder without a name, since its files would stand in the root folder, and one that can't have the
+    /// first outcome's script.
+    pub fn check<F: Files>(&self, files: &mut F) -> Result<(), Fault<'a>>
+        ensures named { OnOk result (self.now.name.now ≢ []) }
+        ensures told { IfErr result (IsFolderFault self.now.name) }
+        ensures stays { F.held files.new ≡ F.held files.old }
+    {
+        if self.name.is_empty() {
+            remark(self.alloc, files, NO_NAME);
+            return Err(Fault::CannotMake { file: self.name });
+        }
+        let path = self.outcome_path(1)?;
+        match files.check_writable(&path) {
+            Ok(()) => Ok(()),
+            Err(error) => Err(self.without_file(files, &path, error)),
+        }
+    }
+
     /// Writes a script for each outcome, and one that gets stuck. One that has none can't be written.
     #[tactic(auto, using(crate::proofs::Kept::outcome_spared))]
     pub fn keep<F: Files>(&self, files: &mut F, found: &Exploration) -> Result<(), Fault<'a>>

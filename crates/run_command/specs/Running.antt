@@ -1,4 +1,5 @@
 -- What a run by threads has done, and which faults it tells.
+use Rattle.coherent_machine.specs.Moves.{AreMoves}
 use Rattle.command_files.specs.Composition.{IsComposition, Leads}
 use Rattle.command_files.specs.Ends.{ends_of}
 use Rattle.command_files.specs.Sizes.{config_of, IsInside, IsOutside, config_named}
@@ -11,19 +12,20 @@ use Rattle.command_settings.specs.declared.wanted.Run.{Run}
 use Rattle.elf_loader.specs.Image.{Initial}
 use Rattle.host_threads.specs.declared.report.RunError.{RunError}
 use Rattle.host_threads.specs.declared.report.RunError.TheVariants as threads
-use Rattle.machine_model.specs.Views.{State}
+use Rattle.machine_model.specs.Views.{State, opening}
 use Rattle.std.specs.Prelude.{◌≡◌, ◌≤◌, ℕ, List, Option, length}
 use Rattle.text_fields.specs.Writing.{Begins}
 use Rattle.trace_text.specs.Traces.{text}
 use Rattle.trace_text.specs.declared.script.Script.{Script}
 
--- the run of the image in the one file has left this script in the other: it is for the machine that was named, and has no more events than were asked for
+-- the run of the image in the one file has left this script in the other: it is for the machine that was named, each of its events changes that machine, and they are no more than were asked for
 pub record IsJournalled (held left : Contents) (run : Run) (image : Initial) (script : Script) : Type 0 where
   pub image_file : HoldsImage held run.raw run.image.now run.machine.memory image
   pub inside : IsInside run.machine
   pub config : config_of script run.machine.model ≡ config_named run.machine inside
   pub memory : script.kib ≡ run.machine.memory
   pub journal_file : HoldsScript left run.journal.now script
+  pub moves : AreMoves (opening image (config_named run.machine inside)) script.events
   pub limit : length script.events ≤ run.limit
 
 -- and what was appended is the text of the trace that this script means for that image

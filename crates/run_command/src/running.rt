@@ -14,7 +14,8 @@ ghost use Rattle.trace_text.specs.TraceLimits.{IsTrace};
 ghost use Rattle.trace_text.specs.Traces.{text as trace_text};
 
 use command_files::{
-    Fault, Files, image_in, named_config, out_of_limits, print_ends, remark, script_of, unmade,
+    Fault, Files, check_writable, image_in, named_config, out_of_limits, print_ends, remark,
+    script_of, unmade,
 };
 use command_settings::Run;
 use host_threads::{Gate, Report, RunError, run};
@@ -68,7 +69,7 @@ impl<P: Progress> Gate for Watch<'_, P> {
 
 /// Judges the machine's size, reads the image, runs it, writes the journal, and then prints the trace on
 /// `out` and each hart's end on `err`. Where the journal is not written nothing is printed. A journal of the
-/// image's own name is refused before the run. While it runs, `progress` is told how far it is.
+/// image's own name, or in no folder, is refused before the run, which can't be made again. While it runs, `progress` is told how far it is.
 pub fn run_files<'a, R: Threads + Wait + Sync, F: Files, O: Write, E: Write, P: Progress + Sync>(
     rt: &R,
     alloc: Global,
@@ -100,6 +101,7 @@ pub fn run_files<'a, R: Threads + Wait + Sync, F: Files, O: Write, E: Write, P: 
         wanted.machine.memory,
     )?;
     spare_image(alloc, files, wanted.image, wanted.journal)?;
+    check_writable(alloc, files, wanted.journal)?;
     let limit = u64::from(wanted.limit);
     let watch = Watch::new(progress);
     let report = match run(rt, alloc, image, config, limit, &watch) {
@@ -117,6 +119,7 @@ pub fn run_files<'a, R: Threads + Wait + Sync, F: Files, O: Write, E: Write, P: 
         receipts: _,
     } = report;
     let script = script_of(config, wanted.machine.memory, journal);
+    remark_unended(alloc, files, &trace, limit);
     keep(alloc, files, wanted.journal, &script)?;
     print(&trace, out)?;
     // Standard error has no other place to tell that it takes no more.
@@ -124,7 +127,7 @@ pub fn run_files<'a, R: Threads + Wait + Sync, F: Files, O: Write, E: Write, P: 
     Ok(())
 }
 
-/// Refuses a journal that would be written over the program.
+/// Refuses a journal that would be written over the program, also by another name of that file.
 fn spare_image<'a, F: Files>(
     alloc: Global,
     files: &mut F,
@@ -132,11 +135,10 @@ fn spare_image<'a, F: Files>(
     journal: &'a str,
 ) -> Result<(), Fault<'a>>
     ensures apart { OnOk result (image.now ≢ journal.entry.now) }
-    ensures same { OnErr result (image.now ≡ journal.entry.now) }
     ensures told { IfErr result (λ fault. fault ≡ Fault.CannotMake journal.entry) }
     ensures stays { F.held files.new ≡ F.held files.old }
 {
-    if journal == image {
+    if journal == image || files.are_same(image, journal) {
         remark(
             alloc,
             files,
@@ -145,6 +147,25 @@ fn spare_image<'a, F: Files>(
         return Err(Fault::CannotMake { file: journal });
     }
     Ok(())
+}
+
+/// Remarks that a limit ended the run before its harts, if one did.
+fn remark_unended<F: Files>(alloc: Global, files: &mut F, trace: &Trace, limit: u64)
+    ensures stays { F.held files.new ≡ F.held files.old }
+{
+    let unended = trace
+        .statuses()
+        .iter()
+        .position(|status| status.is_running());
+    if let Some(hart) = unended {
+        remark(
+            alloc,
+            files,
+            format_args!(
+                "hart {hart} hadn't ended when a limit was met: --limit, {limit} events tried, or the machine's own, 1000000 instructions of a hart and 4000000 events that change it"
+            ),
+        );
+    }
 }
 
 /// Why a run left no report.

@@ -11,6 +11,7 @@ pub struct Output<'c, W> {
 }
 
 impl<'c, W> Output<'c, W> {
+    /// Standard output that writes there, and leaves why it took no more in this cell.
     pub fn new(to: W, fault: &'c Cell<Option<io::Error>>) -> Output<'c, W> {
         Output { to, fault }
     }
@@ -40,6 +41,7 @@ pub struct Messages<'c, W> {
 }
 
 impl<'c, W> Messages<'c, W> {
+    /// Standard error that writes there, beside the standard output that leaves its faults in this cell.
     pub fn new(to: W, fault: &'c Cell<Option<io::Error>>) -> Messages<'c, W> {
         Messages { to, fault }
     }

@@ -28,7 +28,7 @@ use std::io::Write;
 use text_fields::put;
 
 /// Judges the machine's size, reads what is allowed, then the image, looks for the words of memory that are to be shown,
-/// of which there need be none, searches for what the memory model allows with at most `window` operations of a hart
+/// of which there need be none, and whether the folder may have scripts, searches for what the memory model allows with at most `window` operations of a hart
 /// waiting at a time, prints what is found on `out`, judges the outcomes, and writes scripts and traces. Before these are
 /// written, `err` has been told how the traces of what the model alone allows leave program order, where a folder is
 /// named for them, and which outcomes aren't allowed. Where memory ends, what was found is printed, judged and written

@@ -5,10 +5,12 @@ ghost use Rattle.command_files.specs.Sizes.{IsInside, IsOutside, config_named};
 ghost use Rattle.elf_loader.specs.Size.{IsMemoryKib};
 ghost use Rattle.explore_command.specs.Exploring.{IsAllowFile};
 ghost use Rattle.explore_command.specs.Asking.{HasProgram, IsAskingFault};
+ghost use Rattle.explore_command.specs.Keeping.{HasName};
 ghost use Rattle.explore_command.specs.Targets.{names_of};
 ghost use Rattle.explorer.specs.Words.{CanShowEach};
 
 use crate::asked::allow_file;
+use crate::keeping::check_folder;
 use crate::show::targets::{Targets, targets_of};
 use command_files::{Fault, Files, named_config, out_of_limits};
 use command_settings::Explore;
@@ -28,8 +30,8 @@ pub(crate) struct AskedWords<'a> {
 }
 
 impl<'a> AskedWords<'a> {
-    /// Judges the machine's size, then reads the file that says what is allowed, if one was named, then the image, and
-    /// looks for the words in it.
+    /// Judges the machine's size, then reads the file that says what is allowed, if one was named, then the image, looks
+    /// for the words in it, and whether the folder for scripts, if one was named, may have them.
     pub fn read<F: Files>(
         alloc: Global,
         files: &mut F,
@@ -42,6 +44,7 @@ impl<'a> AskedWords<'a> {
         ensures inside { IfOk result (λ asked. CanShowEach asked.image asked.targets.addresses.items) }
         ensures names { IfOk result (λ asked. asked.targets.names.items ≡ names_of words.now) }
         ensures allowed { IfOk result (λ asked. IsAllowFile (F.held files.old) wanted.entry.allow (option_map (λ bytes. bytes.items) asked.allowed)) }
+        ensures named { IfOk result (λ _. HasName wanted.entry.scripts) }
         ensures outside { IsOutside wanted.entry.machine → result ≡ Err Fault.Configuration }
         ensures told { IfErr result (IsAskingFault (F.held files.old) wanted.entry words.now) }
         ensures stays { F.held files.new ≡ F.held files.old }
@@ -58,6 +61,7 @@ impl<'a> AskedWords<'a> {
             wanted.machine.memory,
         )?;
         let targets = targets_of(alloc, &named.image, &named.names, words)?;
+        check_folder(alloc, files, wanted, config)?;
         Ok(AskedWords {
             config,
             image: named.image,

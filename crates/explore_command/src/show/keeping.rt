@@ -1,12 +1,12 @@
 //! The scripts of what was found, without its words.
 
-ghost use Rattle.std.specs.Prelude.{◌≡◌, ◌≢◌, [], IfErr, IfOk, IfSome, OnOk, length, map};
+ghost use Rattle.std.specs.Prelude.{◌≡◌, IfErr, IfOk, IfSome, OnOk, length, map};
 ghost use Rattle.elf_loader.specs.Size.{IsMemoryKib};
 ghost use Rattle.explore_command.specs.Exploring.{IsFolderFault, IsNamedBy};
 ghost use Rattle.explore_command.specs.Keeping.{IsInNamed, IsScriptOf, SparesOthers};
 ghost use Rattle.explore_command.specs.WordKeeping.{AreWordsKept, bare_of};
 
-use crate::keeping::{Folder, refuse_unnamed};
+use crate::keeping::Folder;
 use command_files::{Fault, Files};
 use command_settings::Explore;
 use explorer::{Exploration, Found, WordExploration, WordFound};
@@ -68,12 +68,10 @@ pub(crate) fn keep<'a, F: Files>(
     ensures kept { OnOk result (IfSome wanted.entry.scripts (λ folder. AreWordsKept (F.held files.new) config wanted.entry.machine.memory folder.now found)) }
     ensures told { IfErr result (IsNamedBy wanted.entry.scripts IsFolderFault) }
     ensures spared { SparesOthers (IsInNamed wanted.entry.scripts (IsScriptOf (length found.outcomes.items) found.stuck)) (F.held files.old) (F.held files.new) }
-    ensures named { OnOk result (IfSome wanted.entry.scripts (λ folder. folder.now ≢ [])) }
 {
     let Some(name) = wanted.scripts else {
         return Ok(());
     };
-    refuse_unnamed(alloc, files, name)?;
     let Ok(found) = without_words(alloc, found) else {
         return Err(Fault::OutOfMemory);
     };

@@ -1,11 +1,14 @@
 //! Files that are kept in memory, and behind them the system's.
 
 use anyhow::{Context, Result};
-use command_files::Files;
+use command_files::{Files, SystemFiles};
 use std::alloc::{AllocError, Global};
 use std::fs;
 use std::io::{self, ErrorKind, Read};
 use std::rt::Files as System;
+
+/// How the names of the files begin that commands write into a folder: it is there in memory alone.
+const FOLDER: &str = "folder/";
 
 /// A file in memory. The reading of one that is broken fails behind its bytes.
 #[derive(Drop)]
@@ -135,6 +138,13 @@ impl<R: System + AllocGlobal> Files for Backed<'_, R> {
 
     fn write(&mut self, name: &str, bytes: &[u8]) -> io::Result<()> {
         self.folder.write(name, bytes)
+    }
+
+    fn check_writable(&mut self, name: &str) -> io::Result<()> {
+        if name.starts_with(FOLDER) {
+            return Ok(());
+        }
+        SystemFiles::new(self.rt).check_writable(name)
     }
 
     fn remark(&mut self, remark: String) {

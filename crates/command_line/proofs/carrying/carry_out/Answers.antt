@@ -67,10 +67,10 @@ pub returns-in_ok-run_files-in-Run-clause-came : goal.returns-in_ok-run_files-in
 returns-in_ok-run_files-in-Run-clause-came g c = subst (IsDone _ _ _ _) (sym c.in-Run.is) c.in_ok-run_files-in-Run.ensures.ran
 
 pub returns-in_ok-run_files-in-Run-clause-spared : goal.returns-in_ok-run_files-in-Run-clause-spared
-returns-in_ok-run_files-in-Run-clause-spared g c = λ name changed. subst (IsWritten name) (sym c.in-Run.is) (journal_alone _ _ _ c.in_ok-run_files-in-Run.ensures.spared name changed)
+returns-in_ok-run_files-in-Run-clause-spared g c = λ name changed. subst (IsWritten name) (sym c.in-Run.is) (journal_alone _ _ _ _ c.in_ok-run_files-in-Run.ensures.spared c.in_ok-run_files-in-Run.ensures.image name changed)
 
 pub returns-in_err-run_files-in-Run-clause-spared : goal.returns-in_err-run_files-in-Run-clause-spared
-returns-in_err-run_files-in-Run-clause-spared g c = λ name changed. subst (IsWritten name) (sym c.in-Run.is) (journal_alone _ _ _ c.in_err-run_files-in-Run.ensures.spared name changed)
+returns-in_err-run_files-in-Run-clause-spared g c = λ name changed. subst (IsWritten name) (sym c.in-Run.is) (journal_alone _ _ _ _ c.in_err-run_files-in-Run.ensures.spared c.in_err-run_files-in-Run.ensures.image name changed)
 
 pub returns-in_err-run_files-in-Run-clause-leaves : goal.returns-in_err-run_files-in-Run-clause-leaves
 returns-in_err-run_files-in-Run-clause-leaves g c = handed_up _ c.from_residual-in_err-run_files-in-Run.result _ c.from_residual-in_err-run_files-in-Run.ensures.1 (left_of _ _ _ _ _ _ _ c.in-Run.is c.in_err-run_files-in-Run.ensures.unfinished)

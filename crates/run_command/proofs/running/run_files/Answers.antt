@@ -1,4 +1,5 @@
 use Rattle.std.proofs.Common.{◌≡◌, ◌∙◌, ◌⊎◌, ◌≤◌, ℕ, List, Option, ap, arith, inl, inr, length, map, subst, sym}
+use Rattle.coherent_machine.specs.Moves.{AreMoves}
 use Rattle.command_files.specs.Sizes.{IsInside, config_of, config_named, script_for}
 use Rattle.command_files.specs.Files.{HoldsImage}
 use Rattle.command_files.specs.Contents.{Contents, HoldsBytes}
@@ -11,6 +12,7 @@ use Rattle.elf_loader.specs.Image.{Initial}
 use Rattle.elf_loader.specs.Size.{IsMemoryKib}
 use Rattle.machine_model.specs.LawfulLog.{IsLawfulLog}
 use Rattle.machine_model.specs.Laws.{IsHeadline}
+use Rattle.machine_model.specs.Views.{opening}
 use Rattle.machine_types.specs.declared.config.Config.{Config}
 use Rattle.machine_types.specs.declared.event.Event.{Event}
 use Rattle.std.specs.Io.KnownBytes.{Appends}
@@ -35,8 +37,8 @@ config_kept config run script events inside config_is script_is =
     config_is ∙ sym (ap (λ (s : Script). config_of s model) script_is ∙ ap (λ (c : Config). config_of (script_for c kib events) model) config_is)
 
 kept : (held left : Contents) (config : Config) (run : Run) (image : Initial) (script : Script) (events : List Event) (inside : IsInside run.machine) → config ≡ config_named run.machine inside → script ≡ script_for config run.machine.memory events
-    → HoldsImage held run.raw run.image.now run.machine.memory image → AllByRecursion IsEvent script.events → HoldsBytes left run.journal.now (script_text script) → length events ≤ run.limit → IsJournalled held left run image script
-kept held left config run image script events inside config_is script_is image_file spelt bytes few =
+    → HoldsImage held run.raw run.image.now run.machine.memory image → AllByRecursion IsEvent script.events → HoldsBytes left run.journal.now (script_text script) → AreMoves (opening image config) events → length events ≤ run.limit → IsJournalled held left run image script
+kept held left config run image script events inside config_is script_is image_file spelt bytes moving few =
     let memory_same = ap (λ (s : Script). s.kib) script_is in
     record {
       image_file = image_file;
@@ -47,6 +49,7 @@ kept held left config run image script events inside config_is script_is image_f
         is_script = record { head = script_within script (subst IsMemoryKib (sym memory_same) inside.memory); events = spelt };
         bytes = bytes;
       };
+      moves = subst (λ (s : Script). AreMoves (opening image (config_named run.machine inside)) s.events) (sym script_is) (subst (λ (k : Config). AreMoves (opening image k) events) config_is moving);
       limit = subst (λ (s : Script). length s.events ≤ run.limit) (sym script_is) few;
     }
 
@@ -93,13 +96,13 @@ returns-in_err-print-clause-unfinished g c =
       script = script;
       image = image;
       reached = s;
-      kept = kept _ _ c.in-Some.config run image script c.in-Ok.report.journal.items named.0 named.1 same c.in_ok-image.ensures.image c.script_of-script.ensures.events c.in_ok-keep.ensures.kept (omega (arith, c.in-Ok.ensures.limit.events, c.from-limit.ensures));
+      kept = kept _ _ c.in-Some.config run image script c.in-Ok.report.journal.items named.0 named.1 same c.in_ok-image.ensures.image c.script_of-script.ensures.events c.in_ok-keep.ensures.kept c.in-Ok.ensures.moves (omega (arith, c.in-Ok.ensures.limit.events, c.from-limit.ensures));
       replayed = leads_there image script run.machine.model c.in-Some.config c.in-Ok.report.journal.items s config_same (sym (ap (λ (t : Script). t.events) same)) c.in-Ok.ensures.replays;
       begun = begun_same _ _ _ _ c.in-Ok.ensures.report.trace c.in_err-print.ensures.begun;
     }))
 
 pub returns-in_err-print-clause-spared : goal.returns-in_err-print-clause-spared
-returns-in_err-print-clause-spared g c = λ other another. c.keep.ensures.others other another ∙ ap (λ (h : Contents). h other) (c.spare_image.ensures.stays ∙ c.in_ok-image.ensures.stays)
+returns-in_err-print-clause-spared g c = λ other another. c.keep.ensures.others other another ∙ ap (λ (h : Contents). h other) (c.remark_unended.ensures.stays ∙ (c.check_writable.ensures.stays ∙ (c.spare_image.ensures.stays ∙ c.in_ok-image.ensures.stays)))
 
 pub returns-clause-ran : goal.returns-clause-ran
 returns-clause-ran g c =
@@ -115,7 +118,7 @@ returns-clause-ran g c =
       script = script;
       image = image;
       reached = s;
-      kept = kept _ _ c.in-Some.config run image script c.in-Ok.report.journal.items named.0 named.1 same c.in_ok-image.ensures.image c.script_of-script.ensures.events c.in_ok-keep.ensures.kept (omega (arith, c.in-Ok.ensures.limit.events, c.from-limit.ensures));
+      kept = kept _ _ c.in-Some.config run image script c.in-Ok.report.journal.items named.0 named.1 same c.in_ok-image.ensures.image c.script_of-script.ensures.events c.in_ok-keep.ensures.kept c.in-Ok.ensures.moves (omega (arith, c.in-Ok.ensures.limit.events, c.from-limit.ensures));
       composed = record {
         replayed = leads_there image script run.machine.model c.in-Some.config c.in-Ok.report.journal.items s config_same (sym (ap (λ (t : Script). t.events) same)) c.in-Ok.ensures.replays;
         printed = printed_same _ _ _ _ trace_same c.in_ok-print.ensures.printed;
@@ -138,13 +141,13 @@ returns-clause-ends g c =
       script = script;
       image = image;
       reached = s;
-      kept = kept _ _ c.in-Some.config run image script c.in-Ok.report.journal.items named.0 named.1 same c.in_ok-image.ensures.image c.script_of-script.ensures.events c.in_ok-keep.ensures.kept (omega (arith, c.in-Ok.ensures.limit.events, c.from-limit.ensures));
+      kept = kept _ _ c.in-Some.config run image script c.in-Ok.report.journal.items named.0 named.1 same c.in_ok-image.ensures.image c.script_of-script.ensures.events c.in_ok-keep.ensures.kept c.in-Ok.ensures.moves (omega (arith, c.in-Ok.ensures.limit.events, c.from-limit.ensures));
       replayed = leads_there image script run.machine.model c.in-Some.config c.in-Ok.report.journal.items s config_same (sym (ap (λ (t : Script). t.events) same)) c.in-Ok.ensures.replays;
       begun = ends_begun (g.E.Write.contents c.args.err.now) (g.E.Write.contents c.print_ends.new.err) s _ c.statuses.result.now _ c.print_ends.result c.statuses.ensures c.in-Ok.ensures.report.trace (ap (map (λ output. output.items)) c.as_slice.ensures.value ∙ c.in-Ok.ensures.report.outputs) c.print_ends.ensures;
     }
 
 pub returns-clause-spared : goal.returns-clause-spared
-returns-clause-spared g c = λ other another. c.keep.ensures.others other another ∙ ap (λ (h : Contents). h other) (c.spare_image.ensures.stays ∙ c.in_ok-image.ensures.stays)
+returns-clause-spared g c = λ other another. c.keep.ensures.others other another ∙ ap (λ (h : Contents). h other) (c.remark_unended.ensures.stays ∙ (c.check_writable.ensures.stays ∙ (c.spare_image.ensures.stays ∙ c.in_ok-image.ensures.stays)))
 
 pub returns-in_err-print-clause-untouched : goal.returns-in_err-print-clause-untouched
 returns-in_err-print-clause-untouched g c =
@@ -155,7 +158,7 @@ returns-in_err-keep-clause-untouched g c =
     handed_up _ c.from_residual-in_err-keep.result _ c.from_residual-in_err-keep.ensures.1 (λ before. absurd (not_before _ (CannotMake c.args.wanted.journal) (λ b. b) c.in_err-keep.ensures.told before))
 
 pub returns-in_err-print-clause-image : goal.returns-in_err-print-clause-image
-returns-in_err-print-clause-image g c = c.keep.ensures.others c.args.wanted.image.now c.in_ok-spare_image.ensures.apart ∙ ap (λ (h : Contents). h c.args.wanted.image.now) (c.spare_image.ensures.stays ∙ c.in_ok-image.ensures.stays)
+returns-in_err-print-clause-image g c = c.keep.ensures.others c.args.wanted.image.now c.in_ok-spare_image.ensures.apart ∙ ap (λ (h : Contents). h c.args.wanted.image.now) (c.remark_unended.ensures.stays ∙ (c.check_writable.ensures.stays ∙ (c.spare_image.ensures.stays ∙ c.in_ok-image.ensures.stays)))
 
 pub returns-clause-image : goal.returns-clause-image
-returns-clause-image g c = c.keep.ensures.others c.args.wanted.image.now c.in_ok-spare_image.ensures.apart ∙ ap (λ (h : Contents). h c.args.wanted.image.now) (c.spare_image.ensures.stays ∙ c.in_ok-image.ensures.stays)
+returns-clause-image g c = c.keep.ensures.others c.args.wanted.image.now c.in_ok-spare_image.ensures.apart ∙ ap (λ (h : Contents). h c.args.wanted.image.now) (c.remark_unended.ensures.stays ∙ (c.check_writable.ensures.stays ∙ (c.spare_image.ensures.stays ∙ c.in_ok-image.ensures.stays)))

@@ -64,7 +64,7 @@ returns-clause-shown g c =
     (λ judgement so.
     shown held show asked.config asked.image c.deref-2.result.now _ _ c.in-Ok.exploration c.in_ok-config.ensures.config.0 c.in_ok-config.ensures.config.1 c.deref.ensures.value program c.in_ok-config.ensures.names
     c.in-Ok.ensures
-    _ _ (g.F.Files.held c.keep.new.files) judgement _ c.in_ok-print.ensures.printed c.in_ok-keep.ensures.kept (spared_after _ _ _ _ c.in_ok-config.ensures.stays c.keep.ensures.spared) c.in_ok-config.ensures.allowed so.0 so.1)
+    _ _ (g.F.Files.held c.keep.new.files) judgement _ c.in_ok-print.ensures.printed c.in_ok-config.ensures.named c.in_ok-keep.ensures.kept (spared_after _ _ _ _ c.in_ok-config.ensures.stays c.keep.ensures.spared) c.in_ok-config.ensures.allowed so.0 so.1)
     (ok_both _ _ c.judge-judgement.result c.judge-judgement.ensures.judged c.judge-judgement.ensures.whole)
 
 pub returns-clause-unfinished : goal.returns-clause-unfinished
