@@ -118,7 +118,8 @@ def progress(rvtl, folder):
         file.write(AMOS)
     journal = os.path.join(folder, "j")
     shown = on_terminal([rvtl, "run", "--raw", "--harts", "8", "--limit", "4000000", "--journal", journal, amos])
-    is_well = b" events, retired " in shown and b"\r" in shown and shown.endswith(b"hart 7: run\r\n")
+    ends, _, note = shown.partition(b"hart 7: run\r\n")
+    is_well = b" events, retired " in ends and b"\r" in ends and note.startswith(b"note: hart 0 hadn't ended when a limit was met")
     tell("progress on a terminal", is_well, shown)
 
 
