@@ -33,8 +33,8 @@ impl<P: Progress> Watch for Telling<'_, P> {
 
 /// Judges the machine's size, reads what is allowed, then the image, looks whether the folder may have scripts,
 /// explores the image, prints what is found on `out`, judges the outcomes, and writes their scripts: `err` has been
-/// told which outcomes aren't allowed also where the scripts can't be written in the end. Where memory ends, what was found is printed, judged and written all the
-/// same. While it explores, `progress` is told how far it is.
+/// told which outcomes aren't allowed also where the scripts can't be written in the end. Where memory ends, what
+/// was found is printed, judged and written all the same. While it explores, `progress` is told how far it is.
 pub fn explore_files<'a, F: Files, O: Write, E: Write, P: Progress>(
     alloc: Global,
     files: &mut F,

@@ -68,8 +68,9 @@ impl<P: Progress> Gate for Watch<'_, P> {
 }
 
 /// Judges the machine's size, reads the image, runs it, writes the journal, and then prints the trace on
-/// `out` and each hart's end on `err`. Where the journal is not written nothing is printed. A journal of the
-/// image's own name, or in no folder, is refused before the run, which can't be made again. While it runs, `progress` is told how far it is.
+/// `out` and each hart's end on `err`. Where the journal is not written nothing is printed. A journal in no
+/// folder, or over the image's file by whatever name, is refused before the run, which can't be made again. That
+/// a limit ended the run before its harts is remarked. While it runs, `progress` is told how far it is.
 pub fn run_files<'a, R: Threads + Wait + Sync, F: Files, O: Write, E: Write, P: Progress + Sync>(
     rt: &R,
     alloc: Global,

@@ -27,12 +27,13 @@ use std::alloc::{AllocError, Global};
 use std::io::Write;
 use text_fields::put;
 
-/// Judges the machine's size, reads what is allowed, then the image, looks for the words of memory that are to be shown,
-/// of which there need be none, and whether the folder may have scripts, searches for what the memory model allows with at most `window` operations of a hart
-/// waiting at a time, prints what is found on `out`, judges the outcomes, and writes scripts and traces. Before these are
-/// written, `err` has been told how the traces of what the model alone allows leave program order, where a folder is
-/// named for them, and which outcomes aren't allowed. Where memory ends, what was found is printed, judged and written
-/// all the same. While it searches, `progress` is told how far it is.
+/// Judges the machine's size, reads what is allowed, then the image, looks for the words of memory that are to be
+/// shown, of which there need be none, and whether the folder may have scripts, searches for what the memory model
+/// allows with at most `window` operations of a hart waiting at a time, prints what is found on `out`, judges the
+/// outcomes, and writes scripts and traces. Before these are written, `err` has been told how the traces of what the
+/// model alone allows leave program order, where a folder is named for them, and which outcomes aren't allowed. Where
+/// memory ends, what was found is printed, judged and written all the same. While it searches, `progress` is told how
+/// far it is.
 pub fn architecture_files<'a, F: Files, O: Write, E: Write, P: Progress>(
     alloc: Global,
     files: &mut F,

@@ -30,8 +30,8 @@ impl<P: Progress> SampleWatch for Telling<'_, P> {
 /// Judges the machine's size, reads what is allowed, then the image, looks whether the folder may have scripts, makes
 /// `runs` random runs that `seed` determines, prints the ends they came to on `out`, judges them, and writes their
 /// scripts, shortened: `err` has been told which ends aren't allowed also where the scripts can't be written in the
-/// end. Where memory ends, the runs before
-/// are printed, judged and written all the same. While they are made, `progress` is told how far they are.
+/// end. Where memory ends, the runs before are printed, judged and written all the same. While they are made,
+/// `progress` is told how far they are.
 pub fn sample_files<'a, F: Files, O: Write, E: Write, P: Progress>(
     alloc: Global,
     files: &mut F,
