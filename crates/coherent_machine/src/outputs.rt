@@ -30,8 +30,15 @@ impl Outputs {
     {
         let Outputs { mut lists } = self;
         for node in nodes {
-            lists.push_reserved(node.output);
+            lists.push_reserved(output_of(node));
         }
         lists
     }
+}
+
+// What one hart put out; nothing else of its node is kept.
+fn output_of(node: Node) -> Vec<u32>
+    ensures { result.items ≡ node.output }
+{
+    node.output
 }

@@ -69,10 +69,10 @@ impl<L: Ledger> Fabric<L> {
         ensures kept { IfOk result (λ made. IsKept made.0) }
         ensures headline { IfOk result (λ made. IsHeadline image config made.0.machine) }
     {
-        let machine = Machine::new(alloc, image, config)?;
         let harts = config.harts as usize;
         let counts = Vec::with_capacity(alloc, harts)?;
         let mut shares = Vec::with_capacity(alloc, harts)?;
+        let machine = Machine::new(alloc, image, config)?;
         let (book, mut rest) = blank.open::<L>();
         for _hart in 0..harts {
             shares.push_reserved(Share::new(rest.split_off(1, 0)));
@@ -103,7 +103,8 @@ impl<L: Ledger> Fabric<L> {
         self.journal.reserve(1)?;
         let changes = self.machine.views().changes();
         let outcome = self.machine.apply(event)?;
-        if self.machine.views().changes() != changes {
+        let moved = self.machine.views().changes() != changes;
+        if moved {
             self.journal.push_reserved(event);
             share.add(&mut self.book);
         }
@@ -209,8 +210,7 @@ impl<L: Ledger> Fabric<L> {
             mut counts,
         } = self;
         for share in shares {
-            let Share { part, count } = share;
-            rest.merge(part);
+            let count = share.merge_into(&mut rest);
             counts.push_reserved(count);
         }
         book.audit(&mut rest);

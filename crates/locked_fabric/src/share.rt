@@ -40,6 +40,17 @@ impl<L: Ledger> Share<L> {
         self.count
     }
 
+    // Gives its part of the ledger back, and tells how many events count in it.
+    pub(crate) fn merge_into(self, rest: &mut ledger::Share<L>) -> u64
+        ensures count { result ≡ self }
+        ensures parts { rest.new.parts ≡ rest.old.parts + 1 }
+        ensures amount { rest.new.amount ≡ rest.old.amount + self }
+    {
+        let Share { part, count } = self;
+        rest.merge(part);
+        count
+    }
+
     // One event more, which counts in the book too.
     pub(crate) fn add(&mut self, book: &mut Book<L>)
         requires { book.old.total + 1 < 2 ^ 64 }

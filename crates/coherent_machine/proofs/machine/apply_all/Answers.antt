@@ -1,4 +1,5 @@
-use Rattle.std.proofs.Common.{rules}
+use Rattle.std.proofs.Common.{arith, rules}
+use Rattle.std.proofs.lemmas.Grind.{common_steps}
 use Rattle.coherent_machine.proofs.Refusals.{next_of, one_applied, refused_next, rest_place}
 use Rattle.coherent_machine.proofs.machine.apply_all.Goals as goal
 
@@ -43,3 +44,24 @@ returns-clause-headline c = search rules
 
 pub returns-clause-log : goal.returns-clause-log
 returns-clause-log c = search rules
+
+pub loop-rest-init : goal.loop-rest-init
+loop-rest-init c = search rules
+
+pub slice_bounds-tail-count : goal.slice_bounds-tail-count
+slice_bounds-tail-count c = search rules
+
+pub bounds-rest-0 : goal.bounds-rest-0
+bounds-rest-0 c = search rules
+
+pub slice_bounds-tail-start : goal.slice_bounds-tail-start
+slice_bounds-tail-start c = search rules
+
+pub slice_bounds-tail-end : goal.slice_bounds-tail-end
+slice_bounds-tail-end c = search rules
+
+pub loop-rest-smaller : goal.loop-rest-smaller
+loop-rest-smaller c = search rules
+
+pub returns-clause-ok : goal.returns-clause-ok
+returns-clause-ok c = grind (arith, common_steps)

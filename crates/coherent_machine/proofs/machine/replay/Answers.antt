@@ -51,3 +51,12 @@ returns-in-Err-clause-headline c = search rules
 
 pub returns-in-Err-clause-log : goal.returns-in-Err-clause-log
 returns-in-Err-clause-log c = search rules
+
+pub apply_all-requires-clause-reached : goal.apply_all-requires-clause-reached
+apply_all-requires-clause-reached c = search rules
+
+pub apply_all-requires-clause-headline : goal.apply_all-requires-clause-headline
+apply_all-requires-clause-headline c = search rules
+
+pub apply_all-requires-clause-log : goal.apply_all-requires-clause-log
+apply_all-requires-clause-log c = search rules

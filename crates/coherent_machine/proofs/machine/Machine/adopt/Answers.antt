@@ -1,4 +1,5 @@
-use Rattle.std.proofs.Common.{◌≡◌, IfOk, OnOk, rules, subst, sym}
+use Rattle.std.proofs.Common.{arith, ◌≡◌, IfOk, OnOk, rules, subst, sym}
+use Rattle.std.proofs.lemmas.Grind.{common_steps}
 use Rattle.std.specs.declared.result.Result.{Result}
 use Rattle.machine_types.specs.declared.outcome.Outcome.{Outcome}
 use Rattle.machine_types.specs.declared.outcome.Outcome.TheVariants as outcome
@@ -122,3 +123,36 @@ returns-clause-grows c = rw (← c.self.view_is) (grows_after c.nothing_is_rewri
 
 pub returns-clause-stays : goal.returns-clause-stays
 returns-clause-stays c = rw (← c.self.view_is) (stays_after c.image_and_config_stay.ensures c.self.inside.parts.state c.commit.new.self.state (local_of c.args.hart c.args.batch.now) c.commit.result c.commit.ensures)
+
+pub returns-then-not-is_current-clause-empty : goal.returns-then-not-is_current-clause-empty
+returns-then-not-is_current-clause-empty c = grind (arith, common_steps)
+
+pub returns-then-not-is_current-clause-limit : goal.returns-then-not-is_current-clause-limit
+returns-then-not-is_current-clause-limit c = grind (arith, common_steps)
+
+pub returns-then-is_empty-clause-stale : goal.returns-then-is_empty-clause-stale
+returns-then-is_empty-clause-stale c = grind (arith, common_steps)
+
+pub returns-then-is_empty-clause-empty : goal.returns-then-is_empty-clause-empty
+returns-then-is_empty-clause-empty c = grind (arith, common_steps)
+
+pub commit-requires-clause-sound : goal.commit-requires-clause-sound
+commit-requires-clause-sound c = search rules
+
+pub commit-requires-clause-hart : goal.commit-requires-clause-hart
+commit-requires-clause-hart c = search rules
+
+pub commit-requires-clause-some : goal.commit-requires-clause-some
+commit-requires-clause-some c = search rules
+
+pub returns-clause-stale : goal.returns-clause-stale
+returns-clause-stale c = grind (arith, common_steps)
+
+pub returns-clause-empty : goal.returns-clause-empty
+returns-clause-empty c = search rules
+
+pub returns-clause-limit : goal.returns-clause-limit
+returns-clause-limit c = grind (arith, common_steps)
+
+pub returns-clause-err : goal.returns-clause-err
+returns-clause-err c = search rules

@@ -1,4 +1,4 @@
-use Rattle.std.proofs.Common.{rules}
+use Rattle.std.proofs.Common.{◌≡◌, Err, rules}
 use Rattle.coherent_machine.specs.Adopting.{local_of}
 use Rattle.locked_fabric.specs.FabricState.{FabricState}
 use Rattle.locked_fabric.proofs.Kept.{kept_moved}
@@ -43,3 +43,78 @@ returns-clause-share g c = search rules
 
 pub returns-clause-stays : goal.returns-clause-stays
 returns-clause-stays g c = search rules
+
+pub invariant_of-self : goal.invariant_of-self
+invariant_of-self g c = search rules
+
+pub returns-then-is_err-clause-stale : goal.returns-then-is_err-clause-stale
+returns-then-is_err-clause-stale g c = search rules
+
+pub returns-then-is_err-clause-empty : goal.returns-then-is_err-clause-empty
+returns-then-is_err-clause-empty g c = search rules
+
+pub returns-then-is_err-clause-limit : goal.returns-then-is_err-clause-limit
+returns-then-is_err-clause-limit g c = search rules
+
+pub returns-then-is_err-clause-retired : goal.returns-then-is_err-clause-retired
+returns-then-is_err-clause-retired g c = search rules
+
+pub returns-then-is_err-clause-ok : goal.returns-then-is_err-clause-ok
+returns-then-is_err-clause-ok g c = search rules
+
+pub returns-then-is_err-clause-err : goal.returns-then-is_err-clause-err
+returns-then-is_err-clause-err g c = search rules
+
+pub returns-then-is_err-clause-share : goal.returns-then-is_err-clause-share
+returns-then-is_err-clause-share g c = search rules
+
+pub returns-then-is_err-clause-stays : goal.returns-then-is_err-clause-stays
+returns-then-is_err-clause-stays g c = search rules
+
+pub returns-then-is_err-clause-found : goal.returns-then-is_err-clause-found
+returns-then-is_err-clause-found g c = search rules
+
+pub returns-then-is_err-clause-left : goal.returns-then-is_err-clause-left
+returns-then-is_err-clause-left g c = search rules
+
+pub invariant_of-self-in_err-outcome : goal.invariant_of-self-in_err-outcome
+invariant_of-self-in_err-outcome g c = search rules
+
+pub returns-in_err-outcome-clause-stale : goal.returns-in_err-outcome-clause-stale
+returns-in_err-outcome-clause-stale g c =
+    let answer : c.from_residual.result ≡ Err c.in_err-outcome.field-0.0 = search rules in
+    λ _. rw (← c.self.view_is, answer) (rw c.first.ensures.first at c.in_err-outcome.ensures.stale)
+
+pub returns-in_err-outcome-clause-empty : goal.returns-in_err-outcome-clause-empty
+returns-in_err-outcome-clause-empty g c =
+    let answer : c.from_residual.result ≡ Err c.in_err-outcome.field-0.0 = search rules in
+    λ _. rw (← c.self.view_is, answer) (rw c.first.ensures.first at c.in_err-outcome.ensures.empty)
+
+pub returns-in_err-outcome-clause-limit : goal.returns-in_err-outcome-clause-limit
+returns-in_err-outcome-clause-limit g c =
+    let answer : c.from_residual.result ≡ Err c.in_err-outcome.field-0.0 = search rules in
+    λ _. rw (← c.self.view_is, answer) (rw c.first.ensures.first at c.in_err-outcome.ensures.limit)
+
+pub returns-in_err-outcome-clause-retired : goal.returns-in_err-outcome-clause-retired
+returns-in_err-outcome-clause-retired g c = search rules
+
+pub returns-in_err-outcome-clause-ok : goal.returns-in_err-outcome-clause-ok
+returns-in_err-outcome-clause-ok g c = search rules
+
+pub returns-in_err-outcome-clause-err : goal.returns-in_err-outcome-clause-err
+returns-in_err-outcome-clause-err g c = search rules
+
+pub returns-in_err-outcome-clause-share : goal.returns-in_err-outcome-clause-share
+returns-in_err-outcome-clause-share g c = search rules
+
+pub returns-in_err-outcome-clause-stays : goal.returns-in_err-outcome-clause-stays
+returns-in_err-outcome-clause-stays g c = search rules
+
+pub returns-in_err-outcome-clause-found : goal.returns-in_err-outcome-clause-found
+returns-in_err-outcome-clause-found g c = search rules
+
+pub returns-in_err-outcome-clause-left : goal.returns-in_err-outcome-clause-left
+returns-in_err-outcome-clause-left g c = search rules
+
+pub returns-clause-found : goal.returns-clause-found
+returns-clause-found g c = search rules
