@@ -1,4 +1,4 @@
-use Rattle.std.proofs.Common.{◌≡◌, ◌∙◌, ◌-◌, ℕ, IfSome, ap, false, length, rules, subst, sym}
+use Rattle.std.proofs.Common.{◌≡◌, ◌∙◌, ◌-◌, ℕ, IfSome, ap, arith, false, length, rules, subst, sym}
 use Rattle.std.proofs.lemmas.List.Elements.{All-pop, All-push}
 use Rattle.std.specs.List.{All}
 use Rattle.progress_board.specs.declared.seat.Seat.{Seat}
@@ -14,11 +14,11 @@ loop-hart-preserved g c = record {
   common = subst (All (λ worker. common_of worker ≡ c.args.common.now)) (sym c.push_reserved.ensures.items)
       (All-push (λ worker. common_of worker ≡ c.args.common.now) _ _ c.loop-hart.invariant.common c.new.ensures);
   fresh = (fresh_pop _ _ _ c.pop.ensures.items c.loop-hart.invariant.fresh).0;
-  seats = search rules;
-  shares = search rules;
+  seats = omega (arith, c.in-Some.ensures.len);
+  shares = omega (arith, c.in-Some-pop.ensures.len);
   turns = search rules;
-  made = search rules;
-  room = search rules;
+  made = omega arith;
+  room = omega arith;
 }
 
 pub new-requires-clause-seat : goal.new-requires-clause-seat

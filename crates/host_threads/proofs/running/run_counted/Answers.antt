@@ -1,4 +1,5 @@
-use Rattle.std.proofs.Common.{◌≡◌, ℕ, All, List, refl, sym, subst}
+use Rattle.std.proofs.Common.{◌≡◌, ℕ, All, List, arith, refl, sym, subst}
+use Rattle.std.proofs.lemmas.Grind.{common_steps}
 use Rattle.std.proofs.lemmas.List.Elements.{All-replicate}
 use Rattle.std.specs.Prelude.{IfOk}
 use Rattle.elf_loader.specs.Image.{Initial}
@@ -12,3 +13,15 @@ workers-requires-clause-opening g c =
 pub returns-clause-run : goal.returns-clause-run
 returns-clause-run g c =
     subst (λ (i : Initial). IfOk c.report_of.result (λ left. IsRun i c.args.common.now.config c.args.common.now.limit left)) c.requires.image c.report_of.ensures.run
+
+pub workers-requires-clause-few : goal.workers-requires-clause-few
+workers-requires-clause-few g c = grind (arith, common_steps)
+
+pub workers-requires-clause-seats : goal.workers-requires-clause-seats
+workers-requires-clause-seats g c = grind (arith, common_steps)
+
+pub workers-requires-clause-turns : goal.workers-requires-clause-turns
+workers-requires-clause-turns g c = grind (arith, common_steps)
+
+pub counted-requires-clause-made : goal.counted-requires-clause-made
+counted-requires-clause-made g c = grind (arith, common_steps)

@@ -1,5 +1,6 @@
 use Rattle.std.proofs.Common.{◌∙◌, ap, arith, refl, rules, sym, ℕ}
 use Rattle.std.proofs.lemmas.Bool.{false≢true}
+use Rattle.std.proofs.lemmas.Grind.{common_steps}
 use Rattle.hart.specs.Local.{can_go_alone}
 use Rattle.hart.specs.declared.state.Hart.{Hart}
 use Rattle.machine_model.specs.Views.{node_at}
@@ -23,3 +24,6 @@ returns-else-from-harts-clause-steps g c = (
         | else-from-harts-via-else-from-harts w ↦ absurd (let outside = w.if-from-harts.false in let below = all.0 in omega (arith, outside, below, c.from.ensures, c.harts.ensures))
       ]),
 )
+
+pub returns-then-goes_alone-clause-stood : goal.returns-then-goes_alone-clause-stood
+returns-then-goes_alone-clause-stood g c = grind (arith, common_steps)

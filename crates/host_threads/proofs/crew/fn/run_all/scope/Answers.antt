@@ -1,4 +1,4 @@
-use Rattle.std.proofs.Common.{◌≡◌, ◌∙◌, IfSome, ap, rules, subst, sym}
+use Rattle.std.proofs.Common.{◌≡◌, ◌∙◌, IfSome, ap, arith, length, rules, subst, sym}
 use Rattle.std.proofs.lemmas.List.Elements.{All-pop, All-push}
 use Rattle.std.specs.List.{All}
 use Rattle.std.specs.declared.thread.PromisedHandle.{PromisedHandle}
@@ -17,23 +17,23 @@ spawn_with-requires-clause-keeps g c = λ lifetimes outlives done kept.
 
 pub loop-worker-preserved : goal.loop-worker-preserved
 loop-worker-preserved g c = record {
-  left = search rules;
+  left = omega (arith, c.in-Some.ensures.len);
   common = (All-pop (λ worker. common_of worker ≡ c.captures.common.now) _ _ _ c.pop.ensures.items c.loop-worker.invariant.common).0;
-  running = search rules;
+  running = omega arith;
   promised = subst (All (λ (thread : PromisedHandle _ Shared). thread.promise.0.value ≡ c.captures.common.now)) (sym c.push_reserved.ensures.items)
       (All-push (λ (thread : PromisedHandle _ Shared). thread.promise.0.value ≡ c.captures.common.now) _ _ c.loop-worker.invariant.promised (ap (λ (shared : Shared). shared.0.value) c.in-Ok.ensures.ok ∙ c.of.ensures));
-  room = search rules;
-  none = search rules;
-  done_room = search rules;
-  started = search rules;
+  room = omega arith;
+  none = c.loop-worker.invariant.none;
+  done_room = c.loop-worker.invariant.done_room;
+  started = c.loop-worker.invariant.started;
 }
 
 pub loop-thread-preserved : goal.loop-thread-preserved
 loop-thread-preserved g c = record {
-  next = search rules;
-  finite = search rules;
-  all = search rules;
-  room = search rules;
+  next = tt;
+  finite = tt;
+  all = omega (arith, ap length c.in-Some-thread.ensures.steps.0);
+  room = omega (arith, ap length c.in-Some-thread.ensures.steps.0);
   back = λ common all.
       joined (λ (thread : PromisedHandle _ Shared). thread.promise.0.value) HandsBack common _ _ _ _ _ _ c.in-Some-thread.ensures.steps.0 c.push_reserved-in-loop-thread.ensures.items c.join.ensures
       (c.loop-thread.invariant.back common all);
