@@ -23,26 +23,26 @@ TICK = os.sysconf("SC_CLK_TCK")
 SLOWEST = 20
 
 
-def children_of():
-    """Returns each process's parent, by /proc."""
-    parents = {}
+def processes():
+    """Returns each process's parent and its seconds so far, by /proc."""
+    found = {}
     for name in filter(str.isdigit, os.listdir("/proc")):
         try:
             with open(f"/proc/{name}/stat") as file:
                 fields = file.read().rpartition(")")[2].split()
         except OSError:
             continue
-        parents[int(name)] = (int(fields[1]), (int(fields[11]) + int(fields[12])) / TICK)
-    return parents
+        found[int(name)] = (int(fields[1]), (int(fields[11]) + int(fields[12])) / TICK)
+    return found
 
 
-def below(top, parents):
-    """Returns the processes that the one at the top started, directly or not, with their seconds."""
+def below(top, every):
+    """Returns those of these processes that the one at the top started, directly or not, with their seconds."""
     found, grown = {top}, True
     while grown:
-        more = {pid for pid, (parent, _) in parents.items() if parent in found and pid not in found}
+        more = {pid for pid, (parent, _) in every.items() if parent in found and pid not in found}
         found, grown = found | more, bool(more)
-    return {pid: parents[pid][1] for pid in found if pid in parents}
+    return {pid: every[pid][1] for pid in found if pid in every}
 
 
 def share_of(pid):
@@ -94,7 +94,7 @@ def main():
     run = subprocess.Popen(sys.argv[1:] or [".ci/run"])
     seen, held = {}, collections.Counter()
     while run.poll() is None:
-        for pid, seconds in below(run.pid, children_of()).items():
+        for pid, seconds in below(run.pid, processes()).items():
             share = share_of(pid)
             if share and pid != run.pid:
                 seen[pid, share] = max(seconds, seen.get((pid, share), 0))

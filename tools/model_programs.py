@@ -1,9 +1,9 @@
 #!/usr/bin/env python3
 """Writes the programs of which `gate_machine_comparisons` asks what the memory models allow, and those that it walks through.
 
-usage: tools/model_programs.py litmus > crates/gate_machine_comparisons/data/litmus
-       tools/model_programs.py straight > crates/gate_machine_comparisons/data/straight
-       tools/model_programs.py walked > crates/gate_machine_comparisons/data/programs
+usage: tools/model_programs.py litmus > crates/gate_comparisons/data/machine/litmus
+       tools/model_programs.py straight > crates/gate_comparisons/data/machine/straight
+       tools/model_programs.py walked > crates/gate_comparisons/data/machine/programs
 
 A line of `litmus` has a name, the number of harts, whether RVWMO and Ztso allow the outcome that is asked for, and the
 program's words from 0x80000000 on. The outcome asked for is that all harts exit with 0: each exits with 1 where a number

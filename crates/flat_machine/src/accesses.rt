@@ -9,7 +9,6 @@ ghost use Rattle.rv32_exec.specs.Width.{byte_count};
 use crate::memory::Memory;
 use crate::node::Node;
 use crate::plan::Plan;
-use amo_unit::combine;
 use hart::Retired;
 use machine_model::Deed;
 use machine_parts::{
@@ -17,7 +16,7 @@ use machine_parts::{
 };
 use machine_types::{MemoryModel, Outcome};
 use rv32_decode::{AmoOp, Instr};
-use rv32_exec::{Call, Width};
+use rv32_exec::{Call, Width, combine};
 
 /// An instruction that a hart is about to retire.
 #[derive(Clone, Copy)]

@@ -1,5 +1,5 @@
-//! Tests of the machine's parts, of what instructions are and do, of harts and of a trace's lists, apart
-//! from them, so that none of them is proved a second time for its tests.
+//! Tests of the machine's parts, of what instructions are and do, of harts, of a trace's lists, of the board by which
+//! threads meet and of searches over states, apart from them, so that none of them is proved a second time for its tests.
 #![tactic(auto)]
 
 #[cfg(test)]
@@ -12,6 +12,8 @@ mod channels;
 mod combining;
 #[cfg(test)]
 mod decoding;
+#[cfg(test)]
+mod drawing;
 #[cfg(test)]
 mod executing;
 #[cfg(test)]
@@ -32,3 +34,5 @@ mod reserving;
 mod running;
 #[cfg(test)]
 mod same;
+#[cfg(test)]
+mod searching;

@@ -23,7 +23,7 @@ pub struct Case {
 
 /// The file of a case with this ending.
 fn file<R: Files + AllocGlobal>(rt: &R, name: &str, ending: &str) -> io::Result<Vec<u8>> {
-    let path = format!(in rt.alloc(); "{name}.{ending}")?;
+    let path = format!(in rt.alloc(); "machine/{name}.{ending}")?;
     fs::read(rt, path.as_str())
 }
 

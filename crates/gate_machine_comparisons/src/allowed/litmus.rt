@@ -113,7 +113,7 @@ fn count_allowed(alloc: Global, text: &str) -> Result<Asked> {
 
 /// Asks each program under both models, and says how many outcomes are allowed.
 pub fn ask_all<R: Files + Print + AllocGlobal>(rt: &R) -> Result<()> {
-    let text = fs::read_to_string(rt, "litmus")?;
+    let text = fs::read_to_string(rt, "machine/litmus")?;
     let Asked {
         programs,
         rvwmo,

@@ -1,9 +1,8 @@
 //! Memory as the image with what was performed, worked out from a machine's lists and performed order alone.
 
-use amo_unit::combine;
 use elf_loader::{BASE, Image};
 use hart::Retired;
-use rv32_exec::Action;
+use rv32_exec::{Action, combine};
 use std::alloc::{AllocError, Global};
 use trace_recorder::OpId;
 
