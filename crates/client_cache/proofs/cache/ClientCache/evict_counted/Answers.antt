@@ -1,4 +1,5 @@
-use Rattle.std.proofs.Common.{None, sym, ap, ◌∙◌, false, nat_le}
+use Rattle.std.proofs.lemmas.Grind.{common_steps}
+use Rattle.std.proofs.Common.{None, sym, ap, ◌∙◌, false, nat_le, arith}
 use Rattle.std.specs.FinSet.{insert, len}
 use Rattle.machine_types.specs.declared.limits.TheConstants.{TRACKERS}
 use Rattle.client_cache.specs.declared.answers.Evict.{Evict}
@@ -51,3 +52,6 @@ returns-clause-meaning g c =
     (done.seen_as (insert s.releasing c.args.line)
     ∙ ap (λ (x : Cache). record x { copies = put x.copies c.args.line None; releasing = insert x.releasing c.args.line }) c.self.view_is)
     ∙ sym (evicted_held c.args.self.now c.args.line held (copy ∙ c.in-Some-copy.is) (mark ∙ c.if-place.false) room))
+
+pub put-requires : goal.put-requires
+put-requires g c = grind (arith, common_steps)

@@ -1,4 +1,5 @@
-use Rattle.std.proofs.Common.{◌≡◌, Option, sym, ap, ◌∙◌, refl, false}
+use Rattle.std.proofs.lemmas.Grind.{common_steps}
+use Rattle.std.proofs.Common.{◌≡◌, Option, sym, ap, ◌∙◌, refl, false, arith}
 use Rattle.std.specs.FinSet.{remove}
 use Rattle.client_cache.specs.declared.held.Held.{Held}
 use Rattle.client_cache.specs.Held.{granted_copy}
@@ -23,3 +24,6 @@ returns-clause-meaning g c =
     (done.seen_as s.releasing
     ∙ ap (λ (x : Cache). record x { copies = put x.copies c.args.line c.granted.result; acquiring = remove x.acquiring c.args.line }) c.self.view_is
     ∙ ap (λ (o : Option Held). record c.args.self.now { copies = put c.args.self.now.copies c.args.line o; acquiring = remove c.args.self.now.acquiring c.args.line }) copy)
+
+pub put-requires : goal.put-requires
+put-requires g c = grind (arith, common_steps)

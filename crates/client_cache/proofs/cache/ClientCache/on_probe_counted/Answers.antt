@@ -1,4 +1,5 @@
-use Rattle.std.proofs.Common.{sym, ap, ◌∙◌, refl}
+use Rattle.std.proofs.lemmas.Grind.{common_steps}
+use Rattle.std.proofs.Common.{sym, ap, ◌∙◌, refl, arith}
 use Rattle.std.specs.FinSet.{contains}
 use Rattle.client_cache.specs.declared.answers.Probed.{Probed}
 use Rattle.client_cache.specs.Array.{copy_in}
@@ -39,3 +40,6 @@ returns-clause-meaning g c =
     ∙ ap (λ (x : Cache). record x { copies = put x.copies c.args.line c.shrunk.result }) c.self.view_is
     ∙ (λ i. record c.args.self.now { copies = put c.args.self.now.copies c.args.line (c.shrunk.ensures i) }))
     ∙ sym (probed_held c.args.self.now c.args.line c.args.cap held released (copy ∙ c.in-Some-copy.is)))
+
+pub put-requires : goal.put-requires
+put-requires g c = grind (arith, common_steps)

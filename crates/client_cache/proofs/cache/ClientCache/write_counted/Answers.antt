@@ -1,4 +1,5 @@
-use Rattle.std.proofs.Common.{◌≡◌, true, Some, None, sym, ap, ◌∙◌, refl}
+use Rattle.std.proofs.lemmas.Grind.{common_steps}
+use Rattle.std.proofs.Common.{◌≡◌, true, Some, None, sym, ap, ◌∙◌, refl, arith}
 use Rattle.tl_types.specs.declared.permission.Perm.TheVariants.{Nothing, Trunk as TrunkPerm}
 use Rattle.client_cache.specs.declared.held.Held.TheVariants.{Trunk}
 use Rattle.client_cache.specs.Held.{perm_of}
@@ -22,3 +23,6 @@ pub returns-clause-meaning : goal.returns-clause-meaning
 returns-clause-meaning g c =
     let done = rewritten-copy c.self.inside c.self.invariant c.args.line c.in-Some.way c.in-Some.place c.in-Some.ensures.found (Some (Trunk true c.args.bytes)) c.in-Some.place.acquiring refl c.put.new.self c.put.ensures.shape c.put.ensures.slots in
     done.seen_as c.self.inside.releasing ∙ ap (λ (x : Cache). written x c.args.line c.args.bytes) c.self.view_is
+
+pub put-requires : goal.put-requires
+put-requires g c = grind (arith, common_steps)
