@@ -8,9 +8,11 @@ use crate::programs::image_of;
 use crate::same::{same, same_of};
 use coherent_machine::{AdoptError, ApplyError, Machine, Views};
 use elf_loader::Image;
-use hart::{Hart, Retired, Status, run_local};
+use hart::{Direction, Hart, Logged, OpId, Retired, Status, Trace, run_local};
 use locked_fabric::{Fabric, Port, Share, Turn, Visit};
-use machine_types::{Config, Event, MemoryModel, Outcome};
+use machine_types::{
+    Body, Cap, Channel, Config, Event, Grow, LineData, LineSize, MemoryModel, Msg, Outcome,
+};
 use progress_board::{Board, Seat};
 use std::alloc::Global;
 use std::marker::Brand;
@@ -20,8 +22,6 @@ use std::sync::{Mutex, Wait};
 use std::test::Fail;
 use std::thread;
 use std::thread::Threads;
-use tl_types::{Body, Cap, Channel, Grow, LineData, LineSize, Msg};
-use trace_recorder::{Direction, Logged, OpId, Trace};
 
 /// Puts 5 into x10, and ends with it.
 const ROW_1: [u32; 2] = [0x00500513, 0x00000073];

@@ -3,10 +3,10 @@
 use crate::programs::image_of;
 use crate::same::same;
 use coherent_machine::{Views, replay};
-use hart::Status;
+use hart::{Status, Trace};
 use host_threads::{Gate, Report, RunError, run, run_with};
 use locked_fabric::Turn;
-use machine_types::{Config, Event, MemoryModel, Outcome};
+use machine_types::{Channel, Config, Event, LineSize, MemoryModel, Outcome};
 use std::alloc::Global;
 use std::process::Abort;
 use std::sync::Wait;
@@ -14,8 +14,6 @@ use std::sync::atomic::{AtomicBool, AtomicU64, Ordering};
 use std::test::Fail;
 use std::thread;
 use std::thread::Threads;
-use tl_types::{Channel, LineSize};
-use trace_recorder::Trace;
 
 /// More events than any run here takes.
 const LIMIT: u64 = 1_000_000_000;

@@ -4,11 +4,10 @@ use crate::cache::Known;
 use crate::deciding::{Act, Deed};
 use crate::state::PlainMachine;
 use crate::steps::next_alone;
-use hart::{Retired, Status};
+use hart::{OpId, Retired, Status};
+use machine_types::{Body, Cap, Grow, Msg, Perm, shrink};
 use rv32_decode::Instr;
 use std::alloc::AllocError;
-use tl_types::{Body, Cap, Grow, Msg, Perm, shrink};
-use trace_recorder::OpId;
 
 impl PlainMachine {
     /// Where the instruction's operation is performed it is so first, and what it writes at once goes to the

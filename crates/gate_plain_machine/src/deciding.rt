@@ -2,9 +2,8 @@
 
 use crate::buffer::Store;
 use hart::{Retired, Status};
-use machine_types::Outcome;
+use machine_types::{Grow, Msg, Outcome};
 use rv32_decode::Instr;
-use tl_types::{Grow, Msg};
 
 /// What an event comes to.
 #[derive(Clone, Copy)]

@@ -6,10 +6,9 @@ use crate::notes::Notes;
 use crate::queues::Waiting;
 use crate::words::{bytes_at, lines_below};
 use elf_loader::{BASE, Image};
-use machine_types::Config;
+use hart::{Direction, Logged, OpId, Trace, are_within_limits};
+use machine_types::{Config, LineData, LineSize, Msg, Perm};
 use std::alloc::{AllocError, Global};
-use tl_types::{LineData, LineSize, Msg, Perm};
-use trace_recorder::{Direction, Logged, OpId, Trace, are_within_limits};
 
 /// What belongs to one hart.
 #[derive(Drop)]

@@ -2,3 +2,4 @@ pub mod Endings
 pub mod Rows
 pub mod Alone
 pub mod Fetches
+pub mod Lists

@@ -13,7 +13,7 @@ use Rattle.machine_types.specs.declared.config.Config.{Config}
 use Rattle.machine_model.specs.Events.{after_events}
 use Rattle.machine_model.specs.LawfulLog.{IsLawfulLog}
 use Rattle.machine_model.specs.Views.{Node, State, opening}
-use Rattle.trace_recorder.specs.History.{History}
+use Rattle.hart.specs.History.{History}
 
 -- what a run says that was made in this configuration and to this limit
 pub told : (P : Report → Type 0) (image : Initial) (config made : Config) (most limit : ℕ) (r : Result Report RunError) → made ≡ config → limit ≡ most

@@ -5,7 +5,7 @@ use Rattle.client_cache.specs.Cache.{Cache, probed}
 use Rattle.client_cache.specs.declared.answers.Probed.{Probed}
 use Rattle.machine_model.specs.Deliveries.{with_less}
 use Rattle.machine_model.specs.Views.{Node, State, node_at, with_node}
-use Rattle.tl_types.specs.declared.permission.Cap.{Cap}
+use Rattle.machine_types.specs.declared.permission.Cap.{Cap}
 
 pub node_same : (h : ℕ) (n : Node) (s : State) → h < length s.views.nodes → node_at (with_node h n s) h ≡ n
 node_same h n s l = get_or-set_same s.views.nodes h n _ l

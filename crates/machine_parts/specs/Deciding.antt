@@ -3,7 +3,7 @@ use Rattle.std.specs.Prelude.{Result, Ok, Err, Option, Some, None}
 use Rattle.machine_model.specs.declared.act.Plan.{Plan}
 use Rattle.machine_model.specs.declared.act.Plan.TheVariants.{Stays}
 use Rattle.machine_types.specs.declared.outcome.Outcome.{Outcome}
-use Rattle.tl_types.specs.declared.line.LineData.{LineData}
+use Rattle.machine_types.specs.declared.line.LineData.{LineData}
 
 -- what is done with the bytes, where there are any
 abbrev pub with_line : (LineData → Plan) → Result LineData Plan → Plan

@@ -1,1 +1,5 @@
 pub mod Config
+pub mod Line
+pub mod Message
+pub mod Permission
+pub mod Shrink

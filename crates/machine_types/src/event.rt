@@ -1,6 +1,6 @@
 //! What happens to a machine.
 
-use tl_types::Channel;
+use crate::message::Channel;
 
 /// One atomic step of the machine. Harts are counted from 0.
 #[derive(Clone, Copy, Debug, PartialEq, Eq)]

@@ -3,9 +3,8 @@
 ghost use Rattle.std.specs.Prelude.{◌≡◌};
 ghost use Rattle.memory_model.specs.Items as spec;
 
-use hart::Retired;
+use hart::{Retired, Trace};
 use rv32_decode::{Instr, decode};
-use trace_recorder::Trace;
 
 /// How many memory operations a trace has.
 pub(crate) fn operations_of(trace: &Trace) -> usize {

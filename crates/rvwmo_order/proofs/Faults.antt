@@ -16,8 +16,8 @@ use Rattle.memory_model.specs.Traces.{image_of, instructions, operations_at}
 use Rattle.memory_model.specs.Verdict.{Breaks, Code, codes}
 use Rattle.memory_model.proofs.Forms.{same-self}
 use Rattle.memory_model.proofs.Lists.{Contains-from_Member, Member}
-use Rattle.trace_recorder.specs.History.{History}
-use Rattle.trace_recorder.specs.declared.operation.OpId.{OpId}
+use Rattle.hart.specs.History.{History}
+use Rattle.hart.specs.declared.operation.OpId.{OpId}
 use Rattle.rvwmo_order.specs.Answers.{IsSoundVerdict}
 use Rattle.rvwmo_order.specs.Codes.{code_number, rule_of}
 use Rattle.rvwmo_order.specs.Scans.{all_rules, first_broken_pair, first_broken_rule, first_out_of_order, found_or, is_broken_pair, judged, ruled_or, verdict_by, wrong_load}

@@ -2,7 +2,7 @@
 ghost use Rattle.std.specs.Prelude.{◌≡◌};
 ghost use Rattle.rvwmo_order.specs.Codes.{code_number};
 
-use trace_recorder::OpId;
+use hart::OpId;
 
 /// The thirteen rules of preserved program order (chapter 14.1, "Preserved Program Order"), by which one
 /// operation must come before another of its hart.

@@ -4,9 +4,9 @@ ghost use Rattle.std.specs.Option.{option_map};
 ghost use Rattle.text_fields.specs.Reading.{table_at};
 ghost use Rattle.trace_text.specs.TraceReading as reads;
 
+use hart::Direction;
+use machine_types::{Body, Cap, Change, Grow, LineData, LineSize, Msg};
 use text_fields::{after, hex_into, word_at};
-use tl_types::{Body, Cap, Change, Grow, LineData, LineSize, Msg};
-use trace_recorder::Direction;
 
 /// The name of a message.
 #[derive(Clone, Copy)]

@@ -2,9 +2,8 @@
 ghost use Rattle.std.specs.Prelude.{◌≡◌, IsTrue};
 ghost use Rattle.machine_types.specs.Config.{is_within_limits};
 
-use machine_types::Event;
+use machine_types::{Event, LineSize};
 use std::marker::Model;
-use tl_types::LineSize;
 
 /// Events in the order in which they happen.
 #[derive(Debug, Drop)]

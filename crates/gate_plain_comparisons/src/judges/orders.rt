@@ -5,13 +5,13 @@
 use super::are_alike;
 use super::traces::Traces;
 use anyhow::{Result, bail, ensure};
+use hart::{OpId, Trace};
 use machine_types::MemoryModel;
 use rvwmo_order::plain;
 use std::alloc::Global;
 use std::fs;
 use std::io::Write;
 use std::rt::Files;
-use trace_recorder::{OpId, Trace};
 
 /// The files, each with how many traces it has.
 const FILES: [(&str, usize); 3] = [("rows", 74), ("programs", 200), ("shapes", 137)];

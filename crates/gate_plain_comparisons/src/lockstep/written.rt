@@ -1,10 +1,9 @@
 //! Memory as the image with what was performed, worked out from a machine's lists and performed order alone.
 
 use elf_loader::{BASE, Image};
-use hart::Retired;
+use hart::{OpId, Retired};
 use rv32_exec::{Action, combine};
 use std::alloc::{AllocError, Global};
-use trace_recorder::OpId;
 
 /// What an instruction writes once it is performed: so many bytes of a number.
 #[derive(Clone, Copy)]

@@ -3,8 +3,7 @@
 use crate::buffer::Entry;
 use crate::flat::machine::FlatMachine;
 use crate::hart_state::HartState;
-use hart::{Hart, Retired};
-use trace_recorder::OpId;
+use hart::{Hart, OpId, Retired};
 
 /// What belongs to one hart of a flat machine.
 #[derive(Clone, Copy)]

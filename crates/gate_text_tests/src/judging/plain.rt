@@ -4,7 +4,8 @@ ghost use Rattle.std.specs.Prelude.{◌≡◌, ◌<◌};
 use super::trace_of;
 use crate::same::{same, same_of};
 use crate::streams::image_of_kib;
-use hart::Retired;
+use hart::{OpId, Retired, Trace};
+use machine_types::Ticks;
 use memory_model::Operation;
 use rvwmo_order::plain::source;
 use std::alloc::{AllocError, Global};
@@ -12,9 +13,7 @@ use std::marker::Brand;
 use std::process::Abort;
 use std::sync::ledger::{Blank, Ledger};
 use std::test::Fail;
-use tl_types::Ticks;
 use trace_operations::{Index, completed};
-use trace_recorder::{OpId, Trace};
 
 /// `lui a2, 0x80001`, then `sw`, `lw`, `sb` at the second byte, `lh`, `amoswap.w`, `lr.w` and `sc.w`, all
 /// of one word.

@@ -31,8 +31,8 @@ use Rattle.rv32_exec.specs.Meaning.{Access, Private, Loads, Stores, DoesLr, Does
 use Rattle.rv32_exec.specs.Uses.{uses_of}
 use Rattle.store_buffer.specs.ByteMask.{covers, laid_over, marks_of_access}
 use Rattle.store_buffer.specs.Groups.{forwarded, is_empty}
-use Rattle.tl_types.specs.Line.{line_of}
-use Rattle.tl_types.specs.declared.line.LineData.{LineData}
+use Rattle.machine_types.specs.Line.{line_of}
+use Rattle.machine_types.specs.declared.line.LineData.{LineData}
 
 -- ---- what a deed has found
 

@@ -14,7 +14,7 @@ use super::messages::send;
 use crate::node::Node;
 use crate::parts::Parts;
 use client_cache::Evict;
-use tl_types::{Body, Change, LineData, LineSize, Msg};
+use machine_types::{Body, Change, LineData, LineSize, Msg};
 
 /// The cache gives a line up, and a Release goes out.
 pub(crate) fn give_up(parts: &mut Parts, hart: u8, line: u32)

@@ -10,10 +10,10 @@ use crate::error::CheckError;
 use crate::plain::judging::judge;
 use crate::plain::orders::is_order;
 use crate::verdict::Verdict;
+use hart::{OpId, Trace};
 use machine_types::MemoryModel;
 use std::alloc::{AllocError, Global};
 use trace_operations::{Harts, are_runs, has_too_many, names_in, operations_at};
-use trace_recorder::{OpId, Trace};
 
 /// Whether an order of the operations of a trace is legal under a memory model.
 pub fn check_model(

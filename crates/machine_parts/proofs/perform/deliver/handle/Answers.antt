@@ -2,7 +2,7 @@ use Rattle.std.proofs.Common.{◌≡◌, ℕ, subst}
 use Rattle.machine_model.specs.Deliveries.{handled}
 use Rattle.machine_model.specs.Laws.{QueuesFit}
 use Rattle.machine_model.specs.Views.{State}
-use Rattle.tl_types.specs.declared.message.Body.{Body}
+use Rattle.machine_types.specs.declared.message.Body.{Body}
 use Rattle.machine_parts.proofs.perform.deliver.handle.Goals as goal
 
 -- the body is this one

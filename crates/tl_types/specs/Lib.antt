@@ -1,4 +1,0 @@
-pub mod Line
-pub mod Message
-pub mod Permission
-pub mod Shrink
