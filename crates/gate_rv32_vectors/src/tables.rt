@@ -2,6 +2,7 @@
 
 use rv32_decode::{AmoOp, Instr, Register, decode, encode};
 use rv32_exec::{Action, Regs, Width, combine, finish, plan};
+use std::str::Split;
 
 /// The tables, by what their lines are about.
 #[derive(Clone, Copy, Debug, PartialEq, Eq)]
@@ -25,7 +26,7 @@ impl Table {
 // A word, and its one spelling, or `-` where it is no instruction.
 fn agrees_on_word(line: &str) -> Option<bool> {
     let mut fields = line.split('\t');
-    let word = number(fields.next()?)?;
+    let word = next_number(&mut fields)?;
     let spelled = fields.next()?;
     match decode(word) {
         Some(instr) => Some(Some(encode(&instr)) == number(spelled)),
@@ -37,48 +38,80 @@ fn agrees_on_word(line: &str) -> Option<bool> {
 fn agrees_on_amo(line: &str) -> Option<bool> {
     let mut fields = line.split('\t');
     let op = amo_op(fields.next()?)?;
-    let old = number(fields.next()?)?;
-    let operand = number(fields.next()?)?;
-    let written = number(fields.next()?)?;
+    let old = next_number(&mut fields)?;
+    let operand = next_number(&mut fields)?;
+    let written = next_number(&mut fields)?;
     Some(combine(op, old, operand) == written)
 }
 
+/// A line about an instruction: a number is none where its column has none.
+#[derive(Drop)]
+struct Executed {
+    word: u32,
+    pc: u32,
+    rs1: u32,
+    rs2: u32,
+    x17: u32,
+    read: Option<u32>,
+    planned: Action,
+    next: Option<u32>,
+    rd: Option<u32>,
+}
+
 // A word, its pc, memory's size, x(rs1), x(rs2), x17, the number read, the plan, the next pc, and x(rd).
-fn agrees_on_instruction(line: &str) -> Option<bool> {
+fn read_executed(line: &str) -> Option<Executed> {
     let mut fields = line.split('\t');
-    let word = number(fields.next()?)?;
-    let pc = number(fields.next()?)?;
+    let word = next_number(&mut fields)?;
+    let pc = next_number(&mut fields)?;
     // All lines have memory of 4 KiB.
-    if number(fields.next()?)? != 4096 {
+    if next_number(&mut fields)? != 4096 {
         return None;
     }
-    let rs1 = number(fields.next()?)?;
-    let rs2 = number(fields.next()?)?;
-    let x17 = number(fields.next()?)?;
-    let read = number(fields.next()?);
-    let planned = read_plan(fields.next()?)?;
-    let next = number(fields.next()?);
-    let rd = number(fields.next()?);
-    let instr = decode(word)?;
-    // A field that names no register of this instruction has 0 in its column.
-    let mut regs = Regs::new();
-    regs.set(Register::new(17), x17);
-    if rs2 != 0 {
-        regs.set(register(word >> 20), rs2);
+    Some(Executed {
+        word,
+        pc,
+        rs1: next_number(&mut fields)?,
+        rs2: next_number(&mut fields)?,
+        x17: next_number(&mut fields)?,
+        read: number(fields.next()?),
+        planned: read_plan(fields.next()?)?,
+        next: number(fields.next()?),
+        rd: number(fields.next()?),
+    })
+}
+
+fn agrees_on_instruction(line: &str) -> Option<bool> {
+    let executed = read_executed(line)?;
+    let instr = decode(executed.word)?;
+    Some(is_executed_so(&instr, &executed))
+}
+
+fn is_executed_so(instr: &Instr, executed: &Executed) -> bool {
+    let mut regs = registers_before(executed);
+    if plan(instr, executed.pc, &regs, 4096) != executed.planned {
+        return false;
     }
-    if rs1 != 0 {
-        regs.set(register(word >> 15), rs1);
-    }
-    if plan(&instr, pc, &regs, 4096) != planned {
-        return Some(false);
-    }
-    match next {
+    match executed.next {
         Some(next) => {
-            let after = finish(&instr, pc, &mut regs, read);
-            Some(after == next && (!writes(&instr) || Some(regs.get(register(word >> 7))) == rd))
+            let after = finish(instr, executed.pc, &mut regs, executed.read);
+            let rd = regs.get(register(executed.word >> 7));
+            after == next && (!writes(instr) || Some(rd) == executed.rd)
         }
-        None => Some(matches!(planned, Action::Stop(_))),
+        None => matches!(executed.planned, Action::Stop(_)),
     }
+}
+
+// A field that names no register of this instruction has 0 in its column.
+fn registers_before(executed: &Executed) -> Regs {
+    let mut regs = Regs::new();
+    regs.set(Register::new(17), executed.x17);
+    if executed.rs2 != 0 {
+        regs.set(register(executed.word >> 20), executed.rs2);
+    }
+    if executed.rs1 != 0 {
+        regs.set(register(executed.word >> 15), executed.rs1);
+    }
+    regs
 }
 
 fn register(field: u32) -> Register {
@@ -103,44 +136,58 @@ fn number(text: &str) -> Option<u32> {
     }
 }
 
+fn next_number(fields: &mut Split<'_, char>) -> Option<u32> {
+    number(fields.next()?)
+}
+
+fn next_width(words: &mut Split<'_, char>) -> Option<Width> {
+    width(next_number(words)?)
+}
+
 fn read_plan(text: &str) -> Option<Action> {
     let mut words = text.split(' ');
     match words.next()? {
         "Local" => Some(Action::Private),
         "Fence" => Some(Action::Fence),
         "Call" => Some(Action::Call),
-        "Stop" => {
-            let code = number(words.next()?)?;
-            Some(Action::Stop(u8::try_from(code).ok()?))
-        }
-        "Lr" => {
-            let addr = number(words.next()?)?;
-            Some(Action::Lr { addr })
-        }
+        "Stop" => read_stop(&mut words),
+        name => read_access(name, &mut words),
+    }
+}
+
+fn read_stop(words: &mut Split<'_, char>) -> Option<Action> {
+    let code = u8::try_from(next_number(words)?);
+    Some(Action::Stop(code.ok()?))
+}
+
+fn read_access(name: &str, words: &mut Split<'_, char>) -> Option<Action> {
+    let addr = next_number(words)?;
+    match name {
+        "Lr" => Some(Action::Lr { addr }),
         "Load" => {
-            let addr = number(words.next()?)?;
-            let size = width(number(words.next()?)?)?;
+            let size = next_width(words)?;
             Some(Action::Load { addr, size })
         }
-        "Store" => {
-            let addr = number(words.next()?)?;
-            let size = width(number(words.next()?)?)?;
-            let value = number(words.next()?)?;
-            Some(Action::Store { addr, size, value })
-        }
+        "Store" => read_store(addr, words),
         "Sc" => {
-            let addr = number(words.next()?)?;
-            let value = number(words.next()?)?;
+            let value = next_number(words)?;
             Some(Action::Sc { addr, value })
         }
-        "Amo" => {
-            let addr = number(words.next()?)?;
-            let op = amo_op(words.next()?)?;
-            let operand = number(words.next()?)?;
-            Some(Action::Amo { addr, op, operand })
-        }
+        "Amo" => read_amo(addr, words),
         _ => None,
     }
+}
+
+fn read_store(addr: u32, words: &mut Split<'_, char>) -> Option<Action> {
+    let size = next_width(words)?;
+    let value = next_number(words)?;
+    Some(Action::Store { addr, size, value })
+}
+
+fn read_amo(addr: u32, words: &mut Split<'_, char>) -> Option<Action> {
+    let op = amo_op(words.next()?)?;
+    let operand = next_number(words)?;
+    Some(Action::Amo { addr, op, operand })
 }
 
 fn width(bytes: u32) -> Option<Width> {
