@@ -8,6 +8,19 @@ use std::rt::Files;
 use std::{fs, io};
 use tables::Table;
 
+/// How many lines stand below a table's head, and how many of them this code agrees with.
+fn count_lines(table: Table, text: &str) -> (u32, u32) {
+    let mut lines = 0u32;
+    let mut agreed = 0u32;
+    for line in text.lines().skip(1) {
+        lines = lines.saturating_add(1);
+        if table.agrees(line) == Some(true) {
+            agreed = agreed.saturating_add(1);
+        }
+    }
+    (lines, agreed)
+}
+
 /// Prints on how many of the lines below a table's head this code agrees with it.
 fn compare<R: Files + AllocGlobal + Print>(
     rt: &R,
@@ -16,14 +29,7 @@ fn compare<R: Files + AllocGlobal + Print>(
     what: &str,
 ) -> io::Result<()> {
     let text = fs::read_to_string(rt, path)?;
-    let mut lines = 0u32;
-    let mut agreed = 0u32;
-    for line in text.as_str().lines().skip(1) {
-        lines = lines.saturating_add(1);
-        if table.agrees(line) == Some(true) {
-            agreed = agreed.saturating_add(1);
-        }
-    }
+    let (lines, agreed) = count_lines(table, text.as_str());
     println!(rt; "{agreed} of {lines} {what}")
 }
 
