@@ -8,7 +8,7 @@ use std::sync::Wait;
 use std::thread::Threads;
 
 /// Programs of two harts that the GNU toolchain built, each with a script.
-const EXAMPLES: [&str; 9] = [
+static EXAMPLES: [&str; 9] = [
     "store_buffering",
     "store_buffering_fenced",
     "message_passing",

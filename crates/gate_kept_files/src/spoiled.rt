@@ -13,7 +13,7 @@ use std::sync::Wait;
 use std::thread::Threads;
 
 /// Images of bare words and ELF files, with the scripts that they are played by.
-const REPLAYS: [(&str, &str, ImageKind); 5] = [
+static REPLAYS: [(&str, &str, ImageKind); 5] = [
     ("row-10-1.bin", "row-10-1.script", ImageKind::Raw),
     ("row-48-2.bin", "row-48-2.script", ImageKind::Raw),
     ("case-005.bin", "case-005.script", ImageKind::Raw),

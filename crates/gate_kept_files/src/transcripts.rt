@@ -46,7 +46,7 @@ use std::rt::Files;
 use std::sync::Wait;
 use std::thread::Threads;
 
-const TRANSCRIPTS: [&str; 8] = [
+static TRANSCRIPTS: [&str; 8] = [
     "replaying",
     "drawing",
     "explaining",

@@ -102,7 +102,7 @@ fn row_39(rt: HostRuntime) -> Result<(), Fail> {
     answers_from_reset(&rt, &TWO_AND_A_STORE, 1, &ROW_39)
 }
 
-const OF_ANOTHER_PROGRAM: [Line; 2] = [
+static OF_ANOTHER_PROGRAM: [Line; 2] = [
     (Call::Adopt(0), Answer::NotAdopted(AdoptError::Stale), 0),
     (Call::Adopt(1), Answer::NotAdopted(AdoptError::Stale), 0),
 ];
@@ -140,7 +140,7 @@ fn row_39_of_an_ended_hart(rt: HostRuntime) -> Result<(), Fail> {
     answers_from_reset(&rt, &EXITS_AT_ONCE, 1, &OF_AN_ENDED_HART)
 }
 
-const AT_THE_LIMIT: [Line; 5] = [
+static AT_THE_LIMIT: [Line; 5] = [
     (
         Call::Apply(Event::Local { hart: 0, count: 65 }),
         Answer::Refused(ApplyError::Limit),

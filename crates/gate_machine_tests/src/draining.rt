@@ -91,7 +91,7 @@ const FENCED: Case = Case {
     ..ANY_LAST
 };
 
-const TOTAL: Case = Case {
+static TOTAL: Case = Case {
     words: &TWO_WRITES,
     model: MemoryModel::Ztso,
     ..FENCED
@@ -103,7 +103,7 @@ fn stores_in_order_are_not_both_overtaken(rt: HostRuntime) -> Result<(), Fail> {
     ends_so(&rt, &TOTAL)
 }
 
-const BEHIND_A_LOAD: Case = Case {
+static BEHIND_A_LOAD: Case = Case {
     words: &S,
     ends: &[(0, 1, 1), (0, 2, 1), (1, 1, 1)],
     ..ANY_LAST
@@ -114,7 +114,7 @@ fn a_store_behind_a_load_is_later_than_what_the_load_saw(rt: HostRuntime) -> Res
     ends_so(&rt, &BEHIND_A_LOAD)
 }
 
-const LAST_STAYS: Case = Case {
+static LAST_STAYS: Case = Case {
     words: &ONE_WORD,
     harts: 1,
     ends: &[(0, 2, 0)],

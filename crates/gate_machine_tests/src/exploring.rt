@@ -124,7 +124,7 @@ fn store_buffering_with_fences(rt: HostRuntime) -> Result<(), Fail> {
 }
 
 // At most one of two harts fails by the other's access; each may fail by itself.
-const CONDITIONAL: Case = Case {
+static CONDITIONAL: Case = Case {
     words: &RESERVED,
     ..BOTH_WAIT
 };
@@ -141,7 +141,7 @@ const RIVAL_OF_ONE_WAY: Case = Case {
     outcomes: &[&[(1, None)]],
 };
 
-const RIVAL_OF_TWO_WAYS: Case = Case {
+static RIVAL_OF_TWO_WAYS: Case = Case {
     ways: 2,
     outcomes: &[&[(0, None)], &[(1, None)]],
     ..RIVAL_OF_ONE_WAY
@@ -178,7 +178,7 @@ fn a_register_that_is_set_again_tells_no_states_apart(rt: HostRuntime) -> Result
     has_states(&rt, &SET_AGAIN, 5)
 }
 
-const RESERVED_IN_VAIN: Case = Case {
+static RESERVED_IN_VAIN: Case = Case {
     words: &UNASKED,
     ..SET_AGAIN
 };

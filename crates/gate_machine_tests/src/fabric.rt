@@ -1,7 +1,7 @@
 //! Worked rows, each played by one worker thread through a port. A call that wants memory is made once more,
 //! so a row ends alike where an allocation of its calls is refused.
 
-ghost use Rattle.std.specs.Prelude.{◌≡◌, ◌<◌, length};
+ghost use Rattle.std.specs.Prelude.{◌≡◌, ◌<◌, IfOk, length};
 
 use crate::answers::{Answer, adopted, applied};
 use crate::programs::image_of;
@@ -55,7 +55,7 @@ const ROW_18_EVENTS: [Event; 6] = [
     STEP,
 ];
 
-const ROW_18_OUTCOMES: [Outcome; 6] = [
+static ROW_18_OUTCOMES: [Outcome; 6] = [
     Outcome::Retired,
     Outcome::Missed(0x80000000),
     Outcome::Delivered,
@@ -218,7 +218,9 @@ struct Ended {
     counts: Vec<u64>,
 }
 
-fn programs_of(alloc: Global, words: &[u32], harts: u32) -> Result<Programs, Fail> {
+fn programs_of(alloc: Global, words: &[u32], harts: u32) -> Result<Programs, Fail>
+    ensures { IfOk result (λ programs. programs.harts ≡ harts) }
+{
     Ok(Programs {
         own: image_of(alloc, words)?,
         harts,
@@ -255,28 +257,61 @@ fn end_of<L: Ledger>(
     })
 }
 
+/// A fabric of a program's machine at reset, and the share of each hart's worker.
+fn fabric_of<L: Ledger>(
+    alloc: Global,
+    blank: Blank,
+    image: Image,
+    harts: u32,
+) -> Result<(Fabric<L>, Vec<Share<L>>), Fail>
+    requires name { blank.name ≡ L.name }
+    requires parts { blank.parts ≡ L.parts }
+    requires harts { blank.parts ≡ harts }
+    ensures all { IfOk result (λ made. length made.1.items ≡ L.parts) }
+{
+    let config = Config::new(harts, 4, 2, LineSize::Bytes16, MemoryModel::Rvwmo).ok_or("limits")?;
+    Ok(Fabric::<L>::new(alloc, blank, image, config)?)
+}
+
+/// Plays with one worker thread, which has the last share.
+fn play_by<L: Ledger + Send + Sync, R: Threads + Wait + AllocGlobal + Sync>(
+    rt: &R,
+    fabric: Fabric<L>,
+    mut shares: Vec<Share<L>>,
+    programs: &Programs,
+    calls: &[(Call, Answer)],
+) -> Result<Ended, Fail>
+    requires all { length shares.items ≡ L.parts }
+    requires harts { (L.parts ≡ programs.now.harts) × (0 < programs.now.harts) }
+{
+    let seat = only_seat(rt.alloc())?;
+    let share = shares.pop().ok_or("a share")?;
+    let lock = Mutex::new(fabric);
+    let done = play_locked(rt, Port::new(&lock, seat, share), programs, calls).ok_or("a thread")?;
+    shares.push(done.share)?;
+    end_of(
+        lock.into_inner(),
+        shares,
+        programs.harts,
+        done.wrong,
+        done.seen,
+    )
+}
+
 fn play_on<L: Ledger + Send + Sync, R: Threads + Wait + AllocGlobal + Sync>(
     rt: &R,
     blank: Blank,
     words: &[u32],
-    harts: u32,
+    programs: &Programs,
     calls: &[(Call, Answer)],
 ) -> Result<Ended, Fail>
     requires name { blank.name ≡ L.name }
     requires parts { blank.parts ≡ L.parts }
-    requires harts { (blank.parts ≡ harts) × (0 < harts) }
+    requires harts { (blank.parts ≡ programs.now.harts) × (0 < programs.now.harts) }
 {
-    let programs = programs_of(rt.alloc(), words, harts)?;
-    let seat = only_seat(rt.alloc())?;
-    let config = Config::new(harts, 4, 2, LineSize::Bytes16, MemoryModel::Rvwmo).ok_or("limits")?;
     let image = image_of(rt.alloc(), words)?;
-    let (fabric, mut shares) = Fabric::<L>::new(rt.alloc(), blank, image, config)?;
-    let share = shares.pop().ok_or("a share")?;
-    let lock = Mutex::new(fabric);
-    let port = Port::new(&lock, seat, share);
-    let done = play_locked(rt, port, &programs, calls).ok_or("a thread")?;
-    shares.push(done.share)?;
-    end_of(lock.into_inner(), shares, harts, done.wrong, done.seen)
+    let (fabric, shares) = fabric_of::<L>(rt.alloc(), blank, image, programs.harts)?;
+    play_by(rt, fabric, shares, programs, calls)
 }
 
 fn played<R: Threads + Wait + AllocGlobal + Sync>(
@@ -287,7 +322,8 @@ fn played<R: Threads + Wait + AllocGlobal + Sync>(
 ) -> Result<Ended, Fail>
     requires { 0 < harts }
 {
-    play_on::<Brand, R>(rt, Blank::new(u64::from(harts)), words, harts, calls)
+    let programs = programs_of(rt.alloc(), words, harts)?;
+    play_on::<Brand, R>(rt, Blank::new(u64::from(harts)), words, &programs, calls)
 }
 
 /// Calls on a program's machine, and how they are to end.
@@ -316,7 +352,7 @@ fn ends_so<R: Threads + Wait + Abort + AllocGlobal + Sync>(
     Ok(ended.trace)
 }
 
-const ROW_1_LOCKED: Row = Row {
+static ROW_1_LOCKED: Row = Row {
     words: &ROW_1,
     calls: &[
         (Call::Apply(STEP), Answer::Came(Outcome::Retired)),
@@ -337,7 +373,7 @@ const LOCAL_1: Event = Event::Local { hart: 0, count: 1 };
 
 const LOCAL_2: Event = Event::Local { hart: 0, count: 2 };
 
-const ROW_24: Row = Row {
+static ROW_24: Row = Row {
     words: &ROW_1,
     calls: &[
         (Call::Apply(LOCAL_2), Answer::Came(Outcome::NotLocal)),
@@ -419,7 +455,7 @@ fn row_39_of_an_ended_hart(rt: HostRuntime) -> Result<(), Fail> {
     Ok(())
 }
 
-const ROW_18_PICKED: Row = Row {
+static ROW_18_PICKED: Row = Row {
     words: &ROW_18,
     calls: &[
         (Call::Picked, Answer::Came(Outcome::Retired)),
@@ -434,7 +470,7 @@ const ROW_18_PICKED: Row = Row {
     seen: (2, Status::Running),
 };
 
-const ROW_18_ENTRIES: [Retired; 2] = [
+static ROW_18_ENTRIES: [Retired; 2] = [
     Retired {
         pc: 0x80000000,
         word: 0x80000637,
@@ -467,7 +503,7 @@ const GRANT_ACK: Msg = Msg {
     body: Body::GrantAck,
 };
 
-const ROW_18_LOG: [Logged; 6] = [
+static ROW_18_LOG: [Logged; 6] = [
     Logged {
         direction: Direction::Sent,
         hart: 0,

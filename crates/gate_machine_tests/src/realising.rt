@@ -96,7 +96,7 @@ fn last_status(schedule: &Schedule) -> Option<Status> {
 }
 
 // The last step stops at the word behind the program, which is no instruction.
-const LOADED: [Event; 7] = [
+static LOADED: [Event; 7] = [
     Event::Step { hart: 0 },
     Event::Step { hart: 0 },
     Event::Deliver {
@@ -124,7 +124,7 @@ fn load_takes_one_round_of_messages(rt: HostRuntime) -> Result<(), Fail> {
     Ok(())
 }
 
-const STORE_BUFFERING_PLAYS: Plays = Plays {
+static STORE_BUFFERING_PLAYS: Plays = Plays {
     words: &STORE_BUFFERING,
     harts: 2,
     ways: 2,
@@ -144,7 +144,7 @@ fn store_buffering(rt: HostRuntime) -> Result<(), Fail> {
     all_come_so(&rt, &STORE_BUFFERING_PLAYS)
 }
 
-const FENCED_PLAYS: Plays = Plays {
+static FENCED_PLAYS: Plays = Plays {
     words: &STORE_BUFFERING_FENCED,
     harts: 2,
     ways: 2,
@@ -163,7 +163,7 @@ fn fenced_load_waits_for_the_drain(rt: HostRuntime) -> Result<(), Fail> {
     all_come_so(&rt, &FENCED_PLAYS)
 }
 
-const MESSAGE_PLAYS: Plays = Plays {
+static MESSAGE_PLAYS: Plays = Plays {
     words: &MESSAGE_PASSING,
     harts: 2,
     ways: 2,
@@ -185,7 +185,7 @@ fn flag_may_be_seen_before_the_message(rt: HostRuntime) -> Result<(), Fail> {
 }
 
 // Hart 1 finds the lock taken, and takes it once hart 0 has given it back.
-const LOCKED: Plays = Plays {
+static LOCKED: Plays = Plays {
     words: &SPIN_LOCK,
     harts: 2,
     ways: 1,
@@ -212,7 +212,7 @@ fn spin_lock_lets_one_in_after_the_other(rt: HostRuntime) -> Result<(), Fail> {
 
 // Both load the other's flag, and then the counter, before anything drains. The store that lowers the own flag joins
 // the one that raised it.
-const BOTH_INSIDE: Plays = Plays {
+static BOTH_INSIDE: Plays = Plays {
     words: &DEKKER,
     harts: 2,
     ways: 2,
@@ -227,7 +227,7 @@ fn both_are_inside_at_once(rt: HostRuntime) -> Result<(), Fail> {
     all_come_so(&rt, &BOTH_INSIDE)
 }
 
-const RESERVED_PLAYS: Plays = Plays {
+static RESERVED_PLAYS: Plays = Plays {
     words: &RESERVED,
     harts: 1,
     ways: 2,
@@ -252,7 +252,7 @@ const RIVAL_OF_ONE_WAY: Plays = Plays {
     ],
 };
 
-const RIVALS_OF_TWO_WAYS: Plays = Plays {
+static RIVALS_OF_TWO_WAYS: Plays = Plays {
     words: &RIVALS,
     harts: 1,
     ways: 2,
@@ -268,7 +268,7 @@ fn rival_line_ends_a_reservation_in_one_way(rt: HostRuntime) -> Result<(), Fail>
     all_come_so(&rt, &RIVALS_OF_TWO_WAYS)
 }
 
-const BACK_AND_FORTH: Plays = Plays {
+static BACK_AND_FORTH: Plays = Plays {
     words: &TWO_LINES,
     harts: 1,
     ways: 1,
@@ -280,7 +280,7 @@ fn dirty_line_comes_back(rt: HostRuntime) -> Result<(), Fail> {
     all_come_so(&rt, &BACK_AND_FORTH)
 }
 
-const TWICE_PLAYS: Plays = Plays {
+static TWICE_PLAYS: Plays = Plays {
     words: &TWICE,
     harts: 1,
     ways: 2,
@@ -347,7 +347,7 @@ fn numbers_put_out_are_told(rt: HostRuntime) -> Result<(), Fail> {
     all_come_so(&rt, &COUNTED)
 }
 
-const IMPOSSIBLE: Plays = Plays {
+static IMPOSSIBLE: Plays = Plays {
     words: &RESERVED,
     harts: 1,
     ways: 2,

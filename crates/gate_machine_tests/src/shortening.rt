@@ -219,7 +219,7 @@ fn result(alloc: Global, status: Status) -> HartResult {
     }
 }
 
-const RUNNING: [Event; 8] = [
+static RUNNING: [Event; 8] = [
     STEP,
     Event::Step { hart: 1 },
     ASKED,
@@ -231,7 +231,7 @@ const RUNNING: [Event; 8] = [
 ];
 
 /// Neither the delivery nor the drain changes anything.
-const CHANGING: [Event; 6] = [
+static CHANGING: [Event; 6] = [
     STEP,
     Event::Step { hart: 1 },
     Event::Step { hart: 1 },
@@ -274,7 +274,7 @@ fn what_changes_no_result_is_left_out(rt: HostRuntime) -> Result<(), Fail> {
 }
 
 // The load reserves its word as soon as the Grant is there.
-const RESERVES: [Event; 7] = [
+static RESERVES: [Event; 7] = [
     Event::Local { hart: 0, count: 2 },
     STEP,
     ASKED,
@@ -300,7 +300,7 @@ fn both_loads_read_0_by_seven_events_a_hart(rt: HostRuntime) -> Result<(), Fail>
 const DRAINS: Event = Event::Drain { hart: 0, word: X };
 
 /// Behind its exit the hart asks for the line, and the store drains as soon as the Grant is there.
-const DRAINED: [Event; 8] = [
+static DRAINED: [Event; 8] = [
     Event::Local { hart: 0, count: 2 },
     STEP,
     STEP,

@@ -24,7 +24,7 @@ const MOST_POLLS: u64 = 10_000_000;
 const EXIT: [u32; 2] = [0x00500513, 0x00000073];
 
 /// Adds 1 to a word a hundred times.
-const HUNDRED: [u32; 8] = [
+static HUNDRED: [u32; 8] = [
     0x80000637, 0x10060613, 0x00100693, 0x06400713, 0x00d627af, 0xfff70713, 0xfe071ce3, 0x00000073,
 ];
 
@@ -41,7 +41,7 @@ const ONE_EXITS: [u32; 3] = [0x00050463, 0x0000006f, 0x00000073];
 const SPIN: [u32; 1] = [0x0000006f];
 
 /// Loads of the words at 0x80000200, 0x80000100 and 0x80000300, then an exit.
-const THREE_LOADS: [u32; 5] = [0x80000637, 0x20062703, 0x10062703, 0x30062703, 0x00000073];
+static THREE_LOADS: [u32; 5] = [0x80000637, 0x20062703, 0x10062703, 0x30062703, 0x00000073];
 
 struct Open;
 
@@ -391,7 +391,7 @@ const ANSWERED: Event = Event::Deliver {
     hart: 0,
 };
 
-const THREE_LINES: [Event; 20] = [
+static THREE_LINES: [Event; 20] = [
     Event::Local { hart: 0, count: 1 },
     STEP,
     ASKED,
@@ -449,7 +449,7 @@ fn a_missing_turn_is_told(rt: HostRuntime) -> Result<(), Fail> {
 }
 
 // Harts, sets and ways outside the limits, and at them.
-const SIZES: [((u32, u32, u32), bool); 10] = [
+static SIZES: [((u32, u32, u32), bool); 10] = [
     ((0, 4, 2), false),
     ((9, 4, 2), false),
     ((1, 0, 2), false),

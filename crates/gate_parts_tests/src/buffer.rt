@@ -266,7 +266,7 @@ const SEALS_ONCE: [Call; 10] = [
     Call::Drains(X, 2, &[1]),
 ];
 
-const ROWS: [&[Call]; 9] = [
+static ROWS: [&[Call]; 9] = [
     &ROW_6,
     &ROW_7,
     &ROW_8,
@@ -374,7 +374,7 @@ fn is_copy(rt: &impl Abort, buffer: &StoreBuffer, copy: &StoreBuffer) {
 }
 
 /// Stores by how they enter, their word, and their place, which is also their value.
-const GROWTH: [(Way, u32, u32); 7] = [
+static GROWTH: [(Way, u32, u32); 7] = [
     (Way::Joining, X, 1),
     (Way::Joining, X, 2),
     (Way::Joining, Y, 3),
@@ -384,7 +384,7 @@ const GROWTH: [(Way, u32, u32); 7] = [
     (Way::Joining, X, 7),
 ];
 
-const SEALED_GROWTH: [(Way, u32, u32); 4] = [
+static SEALED_GROWTH: [(Way, u32, u32); 4] = [
     (Way::Singly, Y, 8),
     (Way::Singly, X, 9),
     (Way::Singly, X, 10),

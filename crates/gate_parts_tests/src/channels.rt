@@ -9,7 +9,7 @@ const X: u32 = 0x8000_0100;
 const Y: u32 = 0x8000_0200;
 
 /// How many messages each channel has room for.
-const ROOMS: [(Channel, usize); 5] = [
+static ROOMS: [(Channel, usize); 5] = [
     (Channel::A, 4),
     (Channel::B, 28),
     (Channel::C, 32),
@@ -99,7 +99,7 @@ const WIDE_RELEASE: Body = Body::ReleaseData {
     bytes: LineData::Bytes64([9; 64]),
 };
 
-const FIRST_IN_FIRST_OUT: [Act; 14] = [
+static FIRST_IN_FIRST_OUT: [Act; 14] = [
     Act::IsEmpty(Channel::A),
     Act::IsEmpty(Channel::B),
     Act::IsEmpty(Channel::C),
@@ -219,7 +219,7 @@ fn long_use_keeps_the_order(rt: HostRuntime) {
 }
 
 /// A message of each channel.
-const BODIES: [Body; 5] = [
+static BODIES: [Body; 5] = [
     Body::AcquireBlock(Grow::NtoB),
     Body::ProbeBlock(Cap::ToN),
     Body::Release(Change::BtoN),

@@ -4,7 +4,7 @@ use rv32_decode::AmoOp;
 use rv32_exec::combine;
 
 /// An operation, what memory holds, the other operand, and what memory then holds.
-const ROW_36: [(AmoOp, u32, u32, u32); 5] = [
+static ROW_36: [(AmoOp, u32, u32, u32); 5] = [
     (AmoOp::Min, 0x8000_0000, 1, 0x8000_0000),
     (AmoOp::Minu, 0x8000_0000, 1, 1),
     (AmoOp::Max, 0x8000_0000, 1, 1),

@@ -14,7 +14,7 @@ fn row_28(rt: HostRuntime) {
 }
 
 /// Words of fences, and the one spelling of each.
-const ROW_33: [(u32, u32); 6] = [
+static ROW_33: [(u32, u32); 6] = [
     (0x0230_000f, 0x0230_000f),
     (0x0840_000f, 0x0840_000f),
     (0x0110_008f, 0x0110_000f),

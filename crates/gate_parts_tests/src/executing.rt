@@ -37,7 +37,7 @@ fn computes(rt: &impl Abort, rows: &[Computed]) {
     }
 }
 
-const ROW_3: [Computed; 4] = [
+static ROW_3: [Computed; 4] = [
     (RegisterOp::Div, 0x8000_0000, 0xffff_ffff, 0x8000_0000),
     (RegisterOp::Rem, 0x8000_0000, 0xffff_ffff, 0),
     (RegisterOp::Divu, 7, 0, 0xffff_ffff),
@@ -50,7 +50,7 @@ fn row_3(rt: HostRuntime) {
 }
 
 /// Words, and the plan of each.
-const ROW_28: [(u32, Option<Action>); 7] = [
+static ROW_28: [(u32, Option<Action>); 7] = [
     (0x0020_0067, Some(Action::Stop(0))),
     (0x0020_00ef, Some(Action::Stop(0))),
     (0x0000_0163, Some(Action::Stop(0))),
@@ -67,7 +67,7 @@ fn row_28(rt: HostRuntime) {
     }
 }
 
-const ROW_29: [Computed; 5] = [
+static ROW_29: [Computed; 5] = [
     (RegisterOp::Mulhsu, 0xffff_ffff, 0xffff_ffff, 0xffff_ffff),
     (RegisterOp::Mulhu, 0xffff_ffff, 0xffff_ffff, 0xffff_fffe),
     (RegisterOp::Mulh, 0xffff_ffff, 0xffff_ffff, 0),

@@ -113,7 +113,7 @@ const TWO_SEGMENTS: Header = Header { e_phnum: 2, ..GOOD };
 
 const THREE_SEGMENTS: Header = Header { e_phnum: 3, ..GOOD };
 
-const ROW_15: [Case; 3] = [
+static ROW_15: [Case; 3] = [
     (
         "a segment to the end of memory",
         ONE_SEGMENT,
@@ -135,7 +135,7 @@ fn row_15(rt: HostRuntime) {
     compare_files(&rt, &ROW_15);
 }
 
-const ROW_30: [Case; 3] = [
+static ROW_30: [Case; 3] = [
     (
         "a table behind the file",
         Header {
@@ -172,7 +172,7 @@ fn row_30(rt: HostRuntime) {
     compare_files(&rt, &ROW_30);
 }
 
-const ROW_40: [Case; 5] = [
+static ROW_40: [Case; 5] = [
     (
         "17 segments",
         Header {
@@ -228,7 +228,7 @@ fn row_40(rt: HostRuntime) {
 /// A byte at the beginning of memory.
 const TWICE: Segment = (0, BASE, 1, 1);
 
-const ROW_40_SEGMENTS: [Case; 4] = [
+static ROW_40_SEGMENTS: [Case; 4] = [
     (
         "behind the file",
         ONE_SEGMENT,
@@ -428,10 +428,10 @@ fn programs_of_the_gnu_toolchain(rt: HostRuntime) -> Result<(), Fail> {
 }
 
 /// `li a0, 5` and `ecall`.
-const EXIT: [u8; 8] = [0x13, 0x05, 0x50, 0x00, 0x73, 0x00, 0x00, 0x00];
+static EXIT: [u8; 8] = [0x13, 0x05, 0x50, 0x00, 0x73, 0x00, 0x00, 0x00];
 
 /// What stands at addresses of 4 KiB of memory that hold these words alone.
-const EXIT_WORDS: [(u32, Option<u32>); 6] = [
+static EXIT_WORDS: [(u32, Option<u32>); 6] = [
     (0x8000_0000, Some(0x0050_0513)),
     (0x8000_0004, Some(0x0000_0073)),
     (0x8000_0ffc, Some(0)),
@@ -468,7 +468,7 @@ fn raw_answer(rt: &(impl Abort + AllocGlobal), length: usize) -> u8 {
     }
 }
 
-const LENGTHS: [(usize, u8); 5] = [(0, 0), (3, 1), (4096, 0), (4100, 8), (4101, 1)];
+static LENGTHS: [(usize, u8); 5] = [(0, 0), (3, 1), (4096, 0), (4100, 8), (4101, 1)];
 
 #[test]
 fn bare_words_are_whole_and_fit(rt: HostRuntime) {
@@ -523,7 +523,7 @@ fn a_refused_allocation_is_no_memory(rt: HostRuntime) {
     same(&rt, sum_of(&words), 1);
 }
 
-const SIZES: [(u32, Option<u32>); 6] = [
+static SIZES: [(u32, Option<u32>); 6] = [
     (4, Some(4096)),
     (1024, Some(1 << 20)),
     (0, None),
@@ -539,7 +539,7 @@ fn sizes(rt: HostRuntime) {
     }
 }
 
-const FAULTS: [(LoadError, u8, &str); 11] = [
+static FAULTS: [(LoadError, u8, &str); 11] = [
     (LoadError::Short, 1, "Short"),
     (LoadError::Magic, 2, "Magic"),
     (LoadError::Class, 3, "Class"),

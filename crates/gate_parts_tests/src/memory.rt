@@ -41,9 +41,9 @@ fn memory_of(rt: &(impl Abort + AllocGlobal), bytes: &[u8], kib: u32, line: Line
     }
 }
 
-const FIRST: [u8; 16] = [1, 2, 3, 4, 5, 6, 7, 8, 9, 10, 11, 12, 13, 14, 15, 16];
+static FIRST: [u8; 16] = [1, 2, 3, 4, 5, 6, 7, 8, 9, 10, 11, 12, 13, 14, 15, 16];
 
-const SECOND: [u8; 16] = [17, 18, 19, 20, 0, 0, 0, 0, 0, 0, 0, 0, 0, 0, 0, 0];
+static SECOND: [u8; 16] = [17, 18, 19, 20, 0, 0, 0, 0, 0, 0, 0, 0, 0, 0, 0, 0];
 
 fn has_short_lines(rt: &impl Abort, memory: &mut Memory) {
     same(rt, memory.line_count(), 256);

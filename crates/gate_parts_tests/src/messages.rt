@@ -10,7 +10,7 @@ use std::mem::size_of;
 use std::sync::ledger::{Blank, Ledger};
 
 /// TileLink 1.8.1, "Permissions transitions": what is held, the Probe, what is left, the change.
-const SHRINK: [(Perm, Cap, Perm, Change); 9] = [
+static SHRINK: [(Perm, Cap, Perm, Change); 9] = [
     (Perm::Trunk, Cap::ToT, Perm::Trunk, Change::TtoT),
     (Perm::Trunk, Cap::ToB, Perm::Branch, Change::TtoB),
     (Perm::Trunk, Cap::ToN, Perm::Nothing, Change::TtoN),
@@ -31,7 +31,7 @@ fn shrink_is_its_table(rt: HostRuntime) {
 }
 
 /// What an Acquire asks for, the Grant that answers it, and the permission that this gives.
-const GRANTED: [(Grow, Cap, Perm); 3] = [
+static GRANTED: [(Grow, Cap, Perm); 3] = [
     (Grow::NtoB, Cap::ToB, Perm::Branch),
     (Grow::NtoT, Cap::ToT, Perm::Trunk),
     (Grow::BtoT, Cap::ToT, Perm::Trunk),
@@ -48,7 +48,7 @@ fn grants_name_what_was_asked_for(rt: HostRuntime) {
 const BYTES: LineData = LineData::Bytes16([7; 16]);
 
 /// TileLink 1.8.1, "Channels of TL-C": a message of each kind, and the channel that it goes on.
-const CHANNELS: [(Body, Channel); 10] = [
+static CHANNELS: [(Body, Channel); 10] = [
     (Body::AcquireBlock(Grow::NtoB), Channel::A),
     (Body::ProbeBlock(Cap::ToN), Channel::B),
     (Body::ProbeAck(Change::NtoN), Channel::C),

@@ -209,7 +209,7 @@ fn row_11(rt: HostRuntime) -> Result<(), Fail> {
     play(&rt, rt.alloc(), &ROW_11)
 }
 
-const ROWS_12_AND_48: [Step; 11] = [
+static ROWS_12_AND_48: [Step; 11] = [
     Step::Granted(X, 0, Grow::NtoB, Cap::ToB, true),
     Step::GrantAck(X),
     Step::Granted(X, 1, Grow::NtoB, Cap::ToB, true),
@@ -299,7 +299,7 @@ fn row_46(rt: HostRuntime) -> Result<(), Fail> {
     play(&rt, rt.alloc(), &ROW_46)
 }
 
-const SEVEN_READERS: [Step; 22] = [
+static SEVEN_READERS: [Step; 22] = [
     Step::Granted(X, 7, Grow::NtoB, Cap::ToB, true),
     Step::GrantAck(X),
     Step::Granted(X, 2, Grow::NtoB, Cap::ToB, true),

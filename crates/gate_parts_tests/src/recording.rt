@@ -7,7 +7,7 @@ use std::alloc::Global;
 use std::process::Abort;
 use std::test::Fail;
 
-const ENTRY: Retired = Retired {
+static ENTRY: Retired = Retired {
     pc: 0x8000_0000,
     word: 0x0000_0013,
     loaded: None,

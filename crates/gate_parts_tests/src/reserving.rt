@@ -3,7 +3,7 @@ use machine_types::LineSize;
 use reservations::*;
 
 /// The size and the address of a line that is lost, a reserved word, and whether it stays so.
-const LOST: [(LineSize, u32, u32, bool); 6] = [
+static LOST: [(LineSize, u32, u32, bool); 6] = [
     (LineSize::Bytes16, 0x8000_0100, 0x8000_0100, false),
     (LineSize::Bytes16, 0x8000_0100, 0x8000_010c, false),
     (LineSize::Bytes16, 0x8000_0100, 0x8000_0110, true),

@@ -17,7 +17,7 @@ fn image_of(alloc: Global, words: &[u32]) -> Result<Image, Fail> {
     Ok(raw(alloc, &bytes, size)?)
 }
 
-const ROW_39: [u32; 7] = [
+static ROW_39: [u32; 7] = [
     0x80000637, 0x00100693, 0x10d62023, 0x0110000f, 0x00200693, 0x10d62023, 0x10062703,
 ];
 

@@ -5,6 +5,7 @@ use crate::shown::{Pages, show_machine};
 use anyhow::{Result, bail, ensure};
 use coherent_machine::{ApplyError, Machine, ReplayError, replay};
 use hart::Status;
+use hart_ends::put_end;
 use machine_types::{Event, Outcome};
 use std::io::{self, Write};
 use std::str::from_utf8;
@@ -121,22 +122,8 @@ pub fn compare_ends(case: &Case, machine: Machine, page: &mut Vec<u8>) -> Result
 fn write_ends(page: &mut Vec<u8>, statuses: &[Status], outputs: &[Vec<u32>]) -> io::Result<()> {
     page.clear();
     for (hart, (status, output)) in statuses.iter().zip(outputs).enumerate() {
-        write_end(page, hart, *status, output)?;
+        put_end(hart, *status, output, page)?;
+        writeln!(page)?;
     }
     Ok(())
-}
-
-fn write_end(page: &mut Vec<u8>, hart: usize, status: Status, output: &[u32]) -> io::Result<()> {
-    match status {
-        Status::Running => write!(page, "hart {hart}: run")?,
-        Status::Stopped(code) => write!(page, "hart {hart}: stop {code}")?,
-        Status::Exited(code) => write!(page, "hart {hart}: exit {code}")?,
-    }
-    if !output.is_empty() {
-        write!(page, " output")?;
-    }
-    for number in output {
-        write!(page, " {number}")?;
-    }
-    writeln!(page)
 }

@@ -69,7 +69,7 @@ const RUN: Stage<'static> = Stage::Run {
 };
 
 /// Milliseconds since the start, and whether a line comes.
-const TIMES: [(u64, bool); 8] = [
+static TIMES: [(u64, bool); 8] = [
     (0, false),
     (999, false),
     (1_000, true),
@@ -107,7 +107,7 @@ const SAMPLE: Stage<'static> = Stage::Sample {
 };
 
 /// Milliseconds since the start, what is told then, and the line.
-const LINES: [(u64, Stage<'static>, &str); 3] = [
+static LINES: [(u64, Stage<'static>, &str); 3] = [
     (
         12_000,
         RUN,

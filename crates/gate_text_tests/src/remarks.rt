@@ -14,7 +14,7 @@ use std::test::Fail;
 use trace_text::{read_script, read_trace};
 
 /// Scripts that are refused, and what is remarked of each.
-const SCRIPTS: [(&str, &str); 36] = [
+static SCRIPTS: [(&str, &str); 36] = [
     ("", "this is an empty file, and a script is wanted"),
     (
         "rvtl-trace 1\nT 1 4 0x80000000\n",
@@ -165,7 +165,7 @@ fn scripts(rt: HostRuntime) -> Result<(), Fail> {
 }
 
 /// Traces that are refused, and what is remarked of each.
-const TRACES: [(&str, &str); 49] = [
+static TRACES: [(&str, &str); 49] = [
     (
         "rvtl-script 1 1 4 4 2\n",
         "this is a script, and a trace is wanted",
@@ -396,7 +396,7 @@ const FLOATING: [u8; 52] = [
 ];
 
 /// Programs that are refused, whether as bare words, and what is remarked of each.
-const IMAGES: [(&[u8], bool, &str); 6] = [
+static IMAGES: [(&[u8], bool, &str); 6] = [
     (&[0; 4], false, "this is no ELF file: bare words take --raw"),
     (
         b"_start:\n\tli a7, 0\n",
@@ -462,7 +462,7 @@ fn image_is_refused(
 }
 
 /// An ELF file of one segment: four bytes of the file, behind its headers, at 0x80000000.
-const LINKED: [u8; 88] = [
+static LINKED: [u8; 88] = [
     0x7f, b'E', b'L', b'F', 1, 1, 1, 0, 0, 0, 0, 0, 0, 0, 0, 0, 2, 0, 243, 0, 1, 0, 0, 0, 0, 0, 0,
     0x80, 52, 0, 0, 0, 0, 0, 0, 0, 0, 0, 0, 0, 52, 0, 32, 0, 1, 0, 0, 0, 0, 0, 0, 0, 1, 0, 0, 0,
     84, 0, 0, 0, 0, 0, 0, 0x80, 0, 0, 0, 0x80, 4, 0, 0, 0, 4, 0, 0, 0, 5, 0, 0, 0, 4, 0, 0, 0,
@@ -470,7 +470,7 @@ const LINKED: [u8; 88] = [
 ];
 
 /// Bytes of that file, each by its place and as it is set, and what is remarked of the file then.
-const CHANGES: [(usize, u8, &str); 14] = [
+static CHANGES: [(usize, u8, &str); 14] = [
     (16, 1, "this is an object file, which isn't linked"),
     (
         16,
@@ -553,7 +553,7 @@ fn linked_files(rt: HostRuntime) -> Result<(), Fail> {
 }
 
 /// Events that a machine of 2 harts, 4 KiB and lines of 16 bytes hasn't, and what is remarked of each.
-const EVENTS: [(Event, &str); 4] = [
+static EVENTS: [(Event, &str); 4] = [
     (
         Event::Step { hart: 3 },
         "no hart 3: the script's harts are 0 to 1",

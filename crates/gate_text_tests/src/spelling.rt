@@ -10,7 +10,7 @@ use text_fields::Page;
 
 /// Each text, and the word that `riscv64-unknown-elf-as -march=rv32ima -mabi=ilp32 -mno-relax` of
 /// binutils 2.40 makes of it.
-const ROWS: [(u32, &str); 87] = [
+static ROWS: [(u32, &str); 87] = [
     (0x8000_0637, "lui a2, 0x80000"),
     (0x0000_0037, "lui zero, 0x00000"),
     (0xffff_ffb7, "lui t6, 0xfffff"),
@@ -102,7 +102,7 @@ const ROWS: [(u32, &str); 87] = [
 
 /// An address, the word there, and what `riscv64-unknown-elf-objdump -d -M no-aliases` of binutils 2.40
 /// says of it, with a space behind each comma and addresses in eight digits.
-const TARGETS: [(u32, u32, &str); 8] = [
+static TARGETS: [(u32, u32, &str); 8] = [
     (0x8000_0014, 0xfedf_f06f, "jal zero, 0x80000000"),
     (0x8000_0018, 0x0e80_00ef, "jal ra, 0x80000100"),
     (0x8000_0024, 0xfe0f_06e3, "beq t5, zero, 0x80000010"),

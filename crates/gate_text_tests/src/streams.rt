@@ -141,7 +141,7 @@ const IDLE_EVENTS: [Event; 5] = [
     },
 ];
 
-const IDLING: Case = Case {
+static IDLING: Case = Case {
     events: &IDLE_EVENTS,
     how: Strictness::Lenient,
     stream: &[
@@ -165,7 +165,7 @@ const STRICTLY: Case = Case {
 };
 
 /// A second hart, which isn't there, is to step.
-const REFUSED: Case = Case {
+static REFUSED: Case = Case {
     events: &[STEP, STEP, Event::Step { hart: 1 }],
     how: Strictness::Lenient,
     ..STRICTLY
@@ -187,7 +187,7 @@ const OUTPUT_EVENTS: [Event; 4] = [
     Event::Step { hart: 4 },
 ];
 
-const PUTTING_OUT: Case = Case {
+static PUTTING_OUT: Case = Case {
     words: &OUTPUT,
     size: Size {
         harts: 5,
@@ -244,7 +244,7 @@ H 0 run ; MustDrain 0x80000010 0x80000014 ; fence rw, rw
 /// Loads from two lines, in a cache of one set by one way.
 const NARROW: [u32; 3] = [0x8000_0637, 0x0006_2703, 0x0106_2703];
 
-const AT_A_FULL_SET: Case = Case {
+static AT_A_FULL_SET: Case = Case {
     words: &NARROW,
     size: Size {
         sets: 1,
@@ -270,7 +270,7 @@ M t D 0 GrantData 0x80000000 toB 37060080032706000327060100000000
 };
 
 /// An EBREAK.
-const STOPPED: Case = Case {
+static STOPPED: Case = Case {
     words: &[0x0010_0073],
     events: &[STEP],
     stream: &[
@@ -392,7 +392,7 @@ fn a_stream_ends_before_a_refused_event(rt: HostRuntime) -> Result<(), Fail> {
     ends_before(&rt, &REFUSED, "Err(Refused(2, BadEvent))")
 }
 
-const LENIENT: Case = Case {
+static LENIENT: Case = Case {
     how: Strictness::Lenient,
     ..LOADING
 };

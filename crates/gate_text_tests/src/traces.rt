@@ -93,7 +93,7 @@ fn breaks_off(
     Ok(())
 }
 
-const CODES: [(TextCode, u8, &str); 6] = [
+static CODES: [(TextCode, u8, &str); 6] = [
     (TextCode::Header, 1, "Header"),
     (TextCode::Word, 2, "Word"),
     (TextCode::Fields, 3, "Fields"),

@@ -11,17 +11,17 @@ enum Start {
     Dirty,
 }
 
-const READ: [(Call, Answer); 2] = [
+static READ: [(Call, Answer); 2] = [
     (Call::Want(X, Grow::NtoB), MISSED_B),
     (Call::Grant(X, Cap::ToB, Some(ZERO)), Answer::Done),
 ];
 
-const OWNED: [(Call, Answer); 2] = [
+static OWNED: [(Call, Answer); 2] = [
     (Call::Want(X, Grow::NtoT), MISSED_T),
     (Call::Grant(X, Cap::ToT, Some(ZERO)), Answer::Done),
 ];
 
-const STORED: [(Call, Answer); 3] = [
+static STORED: [(Call, Answer); 3] = [
     (Call::Want(X, Grow::NtoT), MISSED_T),
     (Call::Grant(X, Cap::ToT, Some(ZERO)), Answer::Done),
     (Call::Store(X, 1), Answer::Done),
@@ -45,7 +45,7 @@ fn plays_from(rt: &(impl Abort + AllocGlobal), from: Start, calls: &[(Call, Answ
 }
 
 /// What the cache has before a Probe, the Probe, the change and the bytes that it answers, and what is left.
-const PROBES: [(Start, Cap, Change, Option<LineData>, Option<Held>); 12] = [
+static PROBES: [(Start, Cap, Change, Option<LineData>, Option<Held>); 12] = [
     (Start::Nothing, Cap::ToT, Change::NtoN, None, None),
     (Start::Nothing, Cap::ToB, Change::NtoN, None, None),
     (Start::Nothing, Cap::ToN, Change::NtoN, None, None),
@@ -90,7 +90,7 @@ const CLEAN_TWO: Option<Held> = Some(Held::Trunk {
 });
 
 /// What the cache has before a Grant, the Grant with its bytes, and what is left.
-const GRANTS: [(Start, Cap, Option<LineData>, Option<Held>); 12] = [
+static GRANTS: [(Start, Cap, Option<LineData>, Option<Held>); 12] = [
     (Start::Nothing, Cap::ToB, Some(TWO), BRANCH_TWO),
     (Start::Nothing, Cap::ToT, Some(TWO), CLEAN_TWO),
     (Start::Nothing, Cap::ToT, None, None),
@@ -118,14 +118,14 @@ fn grants(rt: HostRuntime) {
     }
 }
 
-const NOTHING_TO_EVICT: [(Call, Answer); 3] = [
+static NOTHING_TO_EVICT: [(Call, Answer); 3] = [
     (Call::Evict(X), Answer::Evict(Evict::NotHeld)),
     (Call::ReleaseAck(X), Answer::Done),
     (Call::Copy(X), Answer::Copy(None)),
 ];
 
 /// What the cache has before an eviction, and what that answers.
-const EVICTIONS: [(Start, Answer); 3] = [
+static EVICTIONS: [(Start, Answer); 3] = [
     (Start::Branch, EVICTED_BRANCH),
     (Start::Clean, EVICTED_CLEAN),
     (Start::Dirty, EVICTED_ONE),
@@ -148,7 +148,7 @@ fn evictions(rt: HostRuntime) {
 }
 
 /// What the cache has before and after a ReleaseAck.
-const RELEASE_ACKS: [(Start, Option<Held>); 4] = [
+static RELEASE_ACKS: [(Start, Option<Held>); 4] = [
     (Start::Nothing, None),
     (Start::Branch, BRANCH),
     (Start::Clean, CLEAN),

@@ -1,7 +1,7 @@
 //! The rows that a cache takes part in. A row's two harts have a cache each.
 use super::*;
 
-const ROW_10_FIRST: [(Call, Answer); 8] = [
+static ROW_10_FIRST: [(Call, Answer); 8] = [
     (Call::Want(Y, Grow::NtoT), MISSED_T),
     (Call::Grant(Y, Cap::ToT, Some(ZERO)), Answer::Done),
     (Call::Store(Y, 1), Answer::Done),
@@ -12,7 +12,7 @@ const ROW_10_FIRST: [(Call, Answer); 8] = [
     (Call::Probe(Y, Cap::ToB), NO_COPY),
 ];
 
-const ROW_10_SECOND: [(Call, Answer); 4] = [
+static ROW_10_SECOND: [(Call, Answer); 4] = [
     (Call::Want(Y, Grow::NtoB), MISSED_B),
     (Call::Want(Y, Grow::NtoB), Answer::Want(Want::WaitGrant)),
     (Call::Grant(Y, Cap::ToB, Some(ONE)), Answer::Done),
@@ -39,21 +39,21 @@ fn row_11(rt: HostRuntime) {
 }
 
 /// The hart reads a line, and then upgrades it.
-const UPGRADE_IS_ASKED: [(Call, Answer); 4] = [
+static UPGRADE_IS_ASKED: [(Call, Answer); 4] = [
     (Call::Want(X, Grow::NtoB), MISSED_B),
     (Call::Grant(X, Cap::ToB, Some(ZERO)), Answer::Done),
     (Call::Copy(X), Answer::Copy(BRANCH)),
     (Call::Want(X, Grow::BtoT), UPGRADES),
 ];
 
-const ROW_12_FIRST: [(Call, Answer); 4] = [
+static ROW_12_FIRST: [(Call, Answer); 4] = [
     (Call::Grant(X, Cap::ToT, None), Answer::Done),
     (Call::Store(X, 1), Answer::Done),
     (Call::Probe(X, Cap::ToN), LOST_ONE),
     (Call::Copy(X), Answer::Copy(None)),
 ];
 
-const ROW_12_SECOND: [(Call, Answer); 8] = [
+static ROW_12_SECOND: [(Call, Answer); 8] = [
     (Call::Want(X, Grow::NtoB), MISSED_B),
     (Call::Grant(X, Cap::ToB, Some(ZERO)), Answer::Done),
     (Call::Want(X, Grow::BtoT), UPGRADES),
@@ -71,7 +71,7 @@ fn row_12_and_row_48(rt: HostRuntime) {
     plays_on(&rt, USUAL, &[&ROW_12_SECOND]);
 }
 
-const ROW_21: [(Call, Answer); 6] = [
+static ROW_21: [(Call, Answer); 6] = [
     (Call::Want(X, Grow::NtoB), MISSED_B),
     (Call::Grant(X, Cap::ToB, Some(ZERO)), Answer::Done),
     (Call::Want(Y, Grow::NtoB), Answer::Want(Want::SetFull)),
@@ -87,7 +87,7 @@ fn row_21(rt: HostRuntime) {
 
 const MANY_SETS: Shape = (64, 2, LineSize::Bytes16);
 
-const FIVE_ARE_TAKEN: [(Call, Answer); 10] = [
+static FIVE_ARE_TAKEN: [(Call, Answer); 10] = [
     (Call::Want(X, Grow::NtoB), MISSED_B),
     (Call::Grant(X, Cap::ToB, Some(ZERO)), Answer::Done),
     (Call::Want(0x8000_0110, Grow::NtoB), MISSED_B),
@@ -100,7 +100,7 @@ const FIVE_ARE_TAKEN: [(Call, Answer); 10] = [
     (Call::Grant(0x8000_0140, Cap::ToB, Some(ZERO)), Answer::Done),
 ];
 
-const FOUR_ARE_GIVEN_UP: [(Call, Answer); 7] = [
+static FOUR_ARE_GIVEN_UP: [(Call, Answer); 7] = [
     (Call::Evict(X), EVICTED_BRANCH),
     (Call::Evict(0x8000_0110), EVICTED_BRANCH),
     (Call::Evict(0x8000_0120), EVICTED_BRANCH),

@@ -1,7 +1,7 @@
 //! Sets that are full, lines of 64 bytes, and what a store writes.
 use super::*;
 
-const ACQUIRES_FILL_A_SET: [(Call, Answer); 9] = [
+static ACQUIRES_FILL_A_SET: [(Call, Answer); 9] = [
     (Call::Want(0x8000_0000, Grow::NtoB), MISSED_B),
     (Call::Want(0x8000_0040, Grow::NtoT), MISSED_T),
     (
@@ -31,7 +31,7 @@ fn acquires_fill_a_set(rt: HostRuntime) {
     plays_on(&rt, USUAL, &[&ACQUIRES_FILL_A_SET]);
 }
 
-const A_SLOT_WAITS: [(Call, Answer); 11] = [
+static A_SLOT_WAITS: [(Call, Answer); 11] = [
     (Call::Want(X, Grow::NtoB), MISSED_B),
     (Call::Grant(X, Cap::ToB, Some(ZERO)), Answer::Done),
     (Call::Want(X, Grow::BtoT), UPGRADES),
@@ -62,7 +62,7 @@ const WIDE_NINE: LineData = LineData::Bytes64([
     0, 0, 0, 0, 0, 0, 0, 0, 0, 0, 0, 0, 0, 0, 0, 0, 0, 0, 0, 0, 0, 0, 0, 0, 0, 0, 0, 0, 0, 0, 0, 0,
 ]);
 
-const WIDE_LINES: [(Call, Answer); 7] = [
+static WIDE_LINES: [(Call, Answer); 7] = [
     (Call::Want(X, Grow::NtoT), MISSED_T),
     (Call::Want(0x8000_0140, Grow::NtoB), MISSED_B),
     (Call::Want(Y, Grow::NtoB), Answer::Want(Want::SetFull)),
@@ -114,7 +114,7 @@ const CLEAN_LAST: Option<Held> = Some(Held::Trunk {
     bytes: LAST,
 });
 
-const STORES: [(Call, Answer); 11] = [
+static STORES: [(Call, Answer); 11] = [
     (Call::Want(X, Grow::NtoT), MISSED_T),
     (Call::Grant(X, Cap::ToT, Some(BEFORE)), Answer::Done),
     (
@@ -152,7 +152,7 @@ fn a_dirty_copy_has_bytes_to_hand_back(rt: HostRuntime) {
     same(&rt, Held::Branch(LAST).dirty_bytes(), None);
 }
 
-const EACH_CALL: [(Call, Answer); 8] = [
+static EACH_CALL: [(Call, Answer); 8] = [
     (Call::Want(X, Grow::NtoT), MISSED_T),
     (Call::Grant(X, Cap::ToT, Some(ZERO)), Answer::Done),
     (Call::Store(X, 1), Answer::Done),

@@ -33,7 +33,7 @@ pub const FILE: [u8; 172] = [
 ];
 
 /// How many lengths in turn, from 0 on, get each answer: 0 for an image, else the fault's number.
-pub const CUT: [(usize, u8); 4] = [(52, 1), (96, 7), (24, 8), (1, 0)];
+pub static CUT: [(usize, u8); 4] = [(52, 1), (96, 7), (24, 8), (1, 0)];
 
 /// The sum of the whole file's image.
 pub const SUM: u32 = 1_202_660;
@@ -69,7 +69,7 @@ pub const HEADER_FF: [(usize, Answer); 7] = [
 ];
 
 /// What this file gets with a byte of the header or the table made 00.
-pub const WITH_00: Answers = &[
+pub static WITH_00: Answers = &[
     &HEADER_00,
     &[
         (7, Answer::Whole),
@@ -102,7 +102,7 @@ pub const WITH_00: Answers = &[
 ];
 
 /// The same with the byte made ff.
-pub const WITH_FF: Answers = &[
+pub static WITH_FF: Answers = &[
     &HEADER_FF,
     &[
         (4, Answer::Fault(7)),

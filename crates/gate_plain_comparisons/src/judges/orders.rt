@@ -14,7 +14,7 @@ use std::io::Write;
 use std::rt::Files;
 
 /// The files, each with how many traces it has.
-const FILES: [(&str, usize); 3] = [("rows", 74), ("programs", 200), ("shapes", 137)];
+static FILES: [(&str, usize); 3] = [("rows", 74), ("programs", 200), ("shapes", 137)];
 
 /// Judges each file, and says how many orders were judged alike.
 pub fn judge_files<R: Files + AllocGlobal, W: Write>(rt: &R, out: &mut W) -> Result<()> {

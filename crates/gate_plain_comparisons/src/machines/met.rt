@@ -4,7 +4,7 @@ use super::WORD;
 use machine_types::Outcome;
 
 /// The outcomes that a stream is to meet.
-const EXPECTED: [Outcome; 14] = [
+static EXPECTED: [Outcome; 14] = [
     Outcome::Retired,
     Outcome::Drained,
     Outcome::Delivered,

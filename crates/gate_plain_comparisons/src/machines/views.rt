@@ -11,7 +11,7 @@ use machine_types::{Channel, Perm};
 use store_buffer::StoreBuffer;
 use tilelink_channels::Queues;
 
-const CHANNELS: [Channel; 5] = [Channel::A, Channel::B, Channel::C, Channel::D, Channel::E];
+static CHANNELS: [Channel; 5] = [Channel::A, Channel::B, Channel::C, Channel::D, Channel::E];
 
 fn is_same_buffer(node: &NodeView<'_>, buffer: &StoreBuffer, word: u32) -> bool {
     let (marks, bytes) = buffer.forward(word);

@@ -6,7 +6,8 @@ use crate::images::ImageKind;
 use anyhow::Result;
 use coherent_machine::Machine;
 use gate_plain_machine::PlainMachine;
-use hart::{Status, Trace};
+use hart::Trace;
+use hart_ends::put_end;
 use machine_types::{Event, Outcome};
 use std::alloc::Global;
 use std::io::{self, Write};
@@ -77,7 +78,8 @@ impl Played {
     fn write_ends(&mut self, trace: &Trace, outputs: &[Vec<u32>]) -> io::Result<()> {
         write_trace(trace, &mut self.trace)?;
         for (hart, (status, output)) in trace.statuses().iter().zip(outputs).enumerate() {
-            write_end(&mut self.ends, hart, *status, output)?;
+            put_end(hart, *status, output, &mut self.ends)?;
+            writeln!(&mut self.ends)?;
         }
         Ok(())
     }
@@ -102,19 +104,4 @@ impl Played {
 fn at_reset<M: Playable>(alloc: Global, case: &Case, script: &Script) -> Result<M> {
     let (image, config) = case.opening(alloc, script)?;
     M::at_reset(alloc, image, config)
-}
-
-fn write_end(out: &mut Vec<u8>, hart: usize, status: Status, output: &[u32]) -> io::Result<()> {
-    match status {
-        Status::Running => write!(out, "hart {hart}: run")?,
-        Status::Stopped(code) => write!(out, "hart {hart}: stop {code}")?,
-        Status::Exited(code) => write!(out, "hart {hart}: exit {code}")?,
-    }
-    if !output.is_empty() {
-        write!(out, " output")?;
-    }
-    for number in output {
-        write!(out, " {number}")?;
-    }
-    writeln!(out)
 }

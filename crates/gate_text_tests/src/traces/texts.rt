@@ -40,7 +40,7 @@ const WIDE_REST: &str =
     "R 0 0x80000000 0x80000637 - -\nR 0 0x80000004 0x00062703 0x80000637 -\nP 0 1\nM s A 0 AcquireBlock 0x80000000 NtoB\nM t A 0 AcquireBlock 0x80000000 NtoB\nM s D 0 GrantData 0x80000000 toB 37060080032706000000000000000000000000000000000000000000000000000000000000000000000000000000000000000000000000000000000000000000\nM t D 0 GrantData 0x80000000 toB 37060080032706000000000000000000000000000000000000000000000000000000000000000000000000000000000000000000000000000000000000000000\nM s E 0 GrantAck 0x80000000\nM t E 0 GrantAck 0x80000000\nH 0 run\n";
 
 /// Scripts of both versions, broken.
-pub(crate) const BROKEN_SCRIPTS: [Broken; 2] = [
+pub(crate) static BROKEN_SCRIPTS: [Broken; 2] = [
     Broken {
         text: &[
             "rvtl-script 1 2 4 4 2\nstep 0\ndrain 1 0x80000100\nevict 0 0x80000200\ndeliver C 1\nlocal 0 4294967295\n",
@@ -96,7 +96,7 @@ pub(crate) const BROKEN_SCRIPTS: [Broken; 2] = [
 ];
 
 /// Traces of both versions, broken.
-pub(crate) const BROKEN_TRACES: [Broken; 3] = [
+pub(crate) static BROKEN_TRACES: [Broken; 3] = [
     Broken {
         text: &[HEAD, IMAGE, FIRST, SECOND, EXIT],
         cut: &[
@@ -235,7 +235,7 @@ pub(crate) const SCRIPT_FAULTS: [(&[u8], usize, u8); 14] = [
 ];
 
 /// Rows 41 and 52 and some more: a trace, and the line and code of its fault.
-pub(crate) const TRACE_FAULTS: [(Text, usize, u8); 24] = [
+pub(crate) static TRACE_FAULTS: [(Text, usize, u8); 24] = [
     (&["rvtl-trace 1\n"], 2, 5),
     (&["rvtl-trace 1"], 1, 5),
     (&[HEAD, IMAGE, FIRST, SECOND], 6, 5),
@@ -348,7 +348,7 @@ pub(crate) const TRACE_FAULTS: [(Text, usize, u8); 24] = [
 ];
 
 /// Traces of other machines: every form of a line that a machine writes, in both versions.
-pub(crate) const TRACES: [Text; 13] = [
+pub(crate) static TRACES: [Text; 13] = [
     &["rvtl-trace 1\nT 1 4 0x80000000\nI 0x80000000 13055000730000000000000000000000\nH 0 run\n"],
     &[
         "rvtl-trace 1\nT 1 4 0x80000000\nI 0x80000000 371600800327c6ff0327060000000000\nR 0 0x80000000 0x80001637 - -\nR 0 0x80000004 0xffc62703 0x00000000 -\nP 0 1\nM s A 0 AcquireBlock 0x80000ff0 NtoB\nM t A 0 AcquireBlock 0x80000ff0 NtoB\nM s D 0 GrantData 0x80000ff0 toB 00000000000000000000000000000000\nM t D 0 GrantData 0x80000ff0 toB 00000000000000000000000000000000\nM s E 0 GrantAck 0x80000ff0\nH 0 stop 5\n",
@@ -401,7 +401,7 @@ pub(crate) const ROW_18: &str =
     "rvtl-trace 1\nT 1 4 0x80000000\nI 0x80000000 37060080032706000000000000000000\nR 0 0x80000000 0x80000637 - -\nR 0 0x80000004 0x00062703 0x80000637 -\nP 0 1\nM s A 0 AcquireBlock 0x80000000 NtoB\nM t A 0 AcquireBlock 0x80000000 NtoB\nM s D 0 GrantData 0x80000000 toB 37060080032706000000000000000000\nM t D 0 GrantData 0x80000000 toB 37060080032706000000000000000000\nM s E 0 GrantAck 0x80000000\nM t E 0 GrantAck 0x80000000\nH 0 run\n";
 
 /// Messages that no machine sends are read and written all the same.
-pub(crate) const UNUSUAL: Text = &[
+pub(crate) static UNUSUAL: Text = &[
     HEAD,
     IMAGE,
     FIRST,
