@@ -1,5 +1,6 @@
 -- What a reader answers.
-use Rattle.std.specs.Prelude.{◌≡◌, Option, Some, None, Result, Ok, Err, ◌⊎◌}
+use Rattle.std.specs.Prelude.{◌≡◌, ℕ, List, [], ◌∷◌, Option, Some, None, Result, Ok, Err, ◌⊎◌}
+use Rattle.text_fields.specs.Reading.{◌>>=◌, after}
 use Rattle.trace_text.specs.declared.fault.TextError.{TextError}
 use Rattle.trace_text.specs.declared.fault.TextCode.TheVariants.{NoMemory}
 use Rattle.trace_text.specs.declared.fault.Stop.{Stop}
@@ -29,3 +30,7 @@ IsFaultOf (stops.Bytes left) e = Unit {0}
 abbrev pub IsReadOrRefused : {X Y : Type 0} → (X → Y) → Result X TextError → Option Y → Type 0
 IsReadOrRefused view (Ok x) read = read ≡ Some (view x)
 IsReadOrRefused view (Err e) read = (e.code ≡ NoMemory) ⊎ (read ≡ None)
+
+-- what was read, where this byte ends it
+abbrev pub ended : {A : Type 0} → ℕ → Option (A × List ℕ) → Option (A × List ℕ)
+ended end found = found >>= λ x. after (end ∷ []) x.1 >>= λ rest. Some (x.0, rest)

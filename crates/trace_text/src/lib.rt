@@ -5,6 +5,7 @@
 mod fault;
 mod head;
 mod message_reading;
+mod reading;
 mod script;
 mod script_faults;
 mod script_reading;

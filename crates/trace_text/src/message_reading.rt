@@ -4,6 +4,7 @@ ghost use Rattle.std.specs.Option.{option_map};
 ghost use Rattle.text_fields.specs.Reading.{table_at};
 ghost use Rattle.trace_text.specs.TraceReading as reads;
 
+use crate::reading::{ended, word_of};
 use hart::Direction;
 use machine_types::{Body, Cap, Change, Grow, LineData, LineSize, Msg};
 use text_fields::{after, hex_into, word_at};
@@ -23,16 +24,53 @@ pub(crate) enum Name {
     GrantAck,
 }
 
+const DIRECTIONS: [(&[u8], Direction); 2] = [(b"s ", Direction::Sent), (b"t ", Direction::Taken)];
+
+const GROWS: [(&[u8], Grow); 3] = [
+    (b" NtoB", Grow::NtoB),
+    (b" NtoT", Grow::NtoT),
+    (b" BtoT", Grow::BtoT),
+];
+
+const CAPS: [(&[u8], Cap); 3] = [
+    (b" toT", Cap::ToT),
+    (b" toB", Cap::ToB),
+    (b" toN", Cap::ToN),
+];
+
+const CHANGES: [(&[u8], Change); 6] = [
+    (b" TtoB", Change::TtoB),
+    (b" TtoN", Change::TtoN),
+    (b" BtoN", Change::BtoN),
+    (b" TtoT", Change::TtoT),
+    (b" BtoB", Change::BtoB),
+    (b" NtoN", Change::NtoN),
+];
+
+const PROBE_ENDINGS: [(&[u8], Name); 3] = [
+    (b"Block ", Name::ProbeBlock),
+    (b"Ack ", Name::ProbeAck),
+    (b"AckData ", Name::ProbeAckData),
+];
+
+const RELEASE_ENDINGS: [(&[u8], Name); 3] = [
+    (b" ", Name::Release),
+    (b"Data ", Name::ReleaseData),
+    (b"Ack ", Name::ReleaseAck),
+];
+
+const GRANT_ENDINGS: [(&[u8], Name); 3] = [
+    (b" ", Name::Grant),
+    (b"Data ", Name::GrantData),
+    (b"Ack ", Name::GrantAck),
+];
+
 /// Whether a message was sent or taken.
 #[tactic(auto, unfolding(crate::specs::TraceReading::direction_at))]
 pub(crate) fn direction_at(bytes: &[u8]) -> Option<(Direction, &[u8])>
     ensures { option_map (λ x. (x.0, x.1.now)) result ≡ reads.direction_at bytes.now }
 {
-    if let Some(rest) = after(b"s ", bytes) {
-        return Some((Direction::Sent, rest));
-    }
-    let rest = after(b"t ", bytes)?;
-    Some((Direction::Taken, rest))
+    word_of(&DIRECTIONS, bytes)
 }
 
 /// Which permissions an Acquire asks for.
@@ -40,14 +78,7 @@ pub(crate) fn direction_at(bytes: &[u8]) -> Option<(Direction, &[u8])>
 fn grow_at(bytes: &[u8]) -> Option<(Grow, &[u8])>
     ensures { option_map (λ x. (x.0, x.1.now)) result ≡ reads.grow_at bytes.now }
 {
-    if let Some(rest) = after(b" NtoB", bytes) {
-        return Some((Grow::NtoB, rest));
-    }
-    if let Some(rest) = after(b" NtoT", bytes) {
-        return Some((Grow::NtoT, rest));
-    }
-    let rest = after(b" BtoT", bytes)?;
-    Some((Grow::BtoT, rest))
+    word_of(&GROWS, bytes)
 }
 
 /// The most that a copy may have.
@@ -55,14 +86,7 @@ fn grow_at(bytes: &[u8]) -> Option<(Grow, &[u8])>
 fn cap_at(bytes: &[u8]) -> Option<(Cap, &[u8])>
     ensures { option_map (λ x. (x.0, x.1.now)) result ≡ reads.cap_at bytes.now }
 {
-    if let Some(rest) = after(b" toT", bytes) {
-        return Some((Cap::ToT, rest));
-    }
-    if let Some(rest) = after(b" toB", bytes) {
-        return Some((Cap::ToB, rest));
-    }
-    let rest = after(b" toN", bytes)?;
-    Some((Cap::ToN, rest))
+    word_of(&CAPS, bytes)
 }
 
 /// What a copy gave up.
@@ -71,65 +95,28 @@ fn cap_at(bytes: &[u8]) -> Option<(Cap, &[u8])>
 fn change_at(bytes: &[u8]) -> Option<(Change, &[u8])>
     ensures { option_map (λ x. (x.0, x.1.now)) result ≡ reads.change_at bytes.now }
 {
-    if let Some(rest) = after(b" TtoB", bytes) {
-        return Some((Change::TtoB, rest));
-    }
-    if let Some(rest) = after(b" TtoN", bytes) {
-        return Some((Change::TtoN, rest));
-    }
-    if let Some(rest) = after(b" BtoN", bytes) {
-        return Some((Change::BtoN, rest));
-    }
-    if let Some(rest) = after(b" TtoT", bytes) {
-        return Some((Change::TtoT, rest));
-    }
-    if let Some(rest) = after(b" BtoB", bytes) {
-        return Some((Change::BtoB, rest));
-    }
-    let rest = after(b" NtoN", bytes)?;
-    Some((Change::NtoN, rest))
+    word_of(&CHANGES, bytes)
 }
 
 /// What follows Probe in a message's name.
 fn probe_name_at(bytes: &[u8]) -> Option<(Name, &[u8])>
     ensures { option_map (λ x. (x.0, x.1.now)) result ≡ table_at reads.probe_endings bytes.now }
 {
-    if let Some(rest) = after(b"Block ", bytes) {
-        return Some((Name::ProbeBlock, rest));
-    }
-    if let Some(rest) = after(b"Ack ", bytes) {
-        return Some((Name::ProbeAck, rest));
-    }
-    let rest = after(b"AckData ", bytes)?;
-    Some((Name::ProbeAckData, rest))
+    word_of(&PROBE_ENDINGS, bytes)
 }
 
 /// What follows Release in a message's name.
 fn release_name_at(bytes: &[u8]) -> Option<(Name, &[u8])>
     ensures { option_map (λ x. (x.0, x.1.now)) result ≡ table_at reads.release_endings bytes.now }
 {
-    if let Some(rest) = after(b" ", bytes) {
-        return Some((Name::Release, rest));
-    }
-    if let Some(rest) = after(b"Data ", bytes) {
-        return Some((Name::ReleaseData, rest));
-    }
-    let rest = after(b"Ack ", bytes)?;
-    Some((Name::ReleaseAck, rest))
+    word_of(&RELEASE_ENDINGS, bytes)
 }
 
 /// What follows Grant in a message's name.
 fn grant_name_at(bytes: &[u8]) -> Option<(Name, &[u8])>
     ensures { option_map (λ x. (x.0, x.1.now)) result ≡ table_at reads.grant_endings bytes.now }
 {
-    if let Some(rest) = after(b" ", bytes) {
-        return Some((Name::Grant, rest));
-    }
-    if let Some(rest) = after(b"Data ", bytes) {
-        return Some((Name::GrantData, rest));
-    }
-    let rest = after(b"Ack ", bytes)?;
-    Some((Name::GrantAck, rest))
+    word_of(&GRANT_ENDINGS, bytes)
 }
 
 /// A message's name.
@@ -175,8 +162,7 @@ pub(crate) fn data_at(bytes: &[u8], size: LineSize) -> Option<(LineData, &[u8])>
 fn change_data_at(bytes: &[u8], size: LineSize) -> Option<((Change, LineData), &[u8])>
     ensures { option_map (λ x. (x.0, x.1.now)) result ≡ reads.change_data_at size bytes.now }
 {
-    let (change, rest) = change_at(bytes)?;
-    let rest = after(b" ", rest)?;
+    let (change, rest) = ended(change_at(bytes), b' ')?;
     let (data, rest) = data_at(rest, size)?;
     Some(((change, data), rest))
 }
@@ -185,8 +171,7 @@ fn change_data_at(bytes: &[u8], size: LineSize) -> Option<((Change, LineData), &
 fn cap_data_at(bytes: &[u8], size: LineSize) -> Option<((Cap, LineData), &[u8])>
     ensures { option_map (λ x. (x.0, x.1.now)) result ≡ reads.cap_data_at size bytes.now }
 {
-    let (cap, rest) = cap_at(bytes)?;
-    let rest = after(b" ", rest)?;
+    let (cap, rest) = ended(cap_at(bytes), b' ')?;
     let (data, rest) = data_at(rest, size)?;
     Some(((cap, data), rest))
 }

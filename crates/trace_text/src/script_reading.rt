@@ -10,6 +10,7 @@ ghost use Rattle.trace_text.specs.Refusals.{IsScriptRefusal};
 ghost use Rattle.trace_text.specs.Stops.{IsEventStop, IsScriptStop};
 
 use crate::fault::{Stop, TextError};
+use crate::reading::{ended, word_of};
 use crate::script::{Events, Head, Script};
 use crate::script_faults::script_fault;
 use crate::version::is_first_version;
@@ -25,29 +26,22 @@ pub(crate) const MOST: u32 = MAX_KIB;
 pub(crate) fn word_line_at(bytes: &[u8]) -> Option<(u32, &[u8])>
     ensures { option_map (λ x. (x.0, x.1.now)) result ≡ reads.word_line_at bytes.now }
 {
-    let (word, rest) = word_at(bytes)?;
-    let rest = after(b"\n", rest)?;
-    Some((word, rest))
+    ended(word_at(bytes), b'\n')
 }
+
+const CHANNELS: [(&[u8], Channel); 5] = [
+    (b"A ", Channel::A),
+    (b"B ", Channel::B),
+    (b"C ", Channel::C),
+    (b"D ", Channel::D),
+    (b"E ", Channel::E),
+];
 
 #[tactic(auto, unfolding(crate::specs::ScriptReading::channel_at))]
 pub(crate) fn channel_at(bytes: &[u8]) -> Option<(Channel, &[u8])>
     ensures { option_map (λ x. (x.0, x.1.now)) result ≡ reads.channel_at bytes.now }
 {
-    if let Some(rest) = after(b"A ", bytes) {
-        return Some((Channel::A, rest));
-    }
-    if let Some(rest) = after(b"B ", bytes) {
-        return Some((Channel::B, rest));
-    }
-    if let Some(rest) = after(b"C ", bytes) {
-        return Some((Channel::C, rest));
-    }
-    if let Some(rest) = after(b"D ", bytes) {
-        return Some((Channel::D, rest));
-    }
-    let rest = after(b"E ", bytes)?;
-    Some((Channel::E, rest))
+    word_of(&CHANNELS, bytes)
 }
 
 #[tactic(auto, unfolding(crate::specs::ScriptReading::step_at))]

@@ -8,6 +8,7 @@ ghost use Rattle.trace_text.specs.TraceReading as words_at;
 
 use crate::head::TraceHead;
 use crate::message_reading::{direction_at, message_at};
+use crate::reading::{ended, word_of};
 use crate::script_reading::{MOST, size_at, word_line_at};
 use crate::trace_writing::any_set;
 use crate::version::is_first_version;
@@ -62,9 +63,7 @@ pub(crate) fn first_numbers_at(bytes: &[u8]) -> Option<(TraceHead, &[u8])>
 fn word_field_at(bytes: &[u8]) -> Option<(u32, &[u8])>
     ensures { option_map (λ x. (x.0, x.1.now)) result ≡ reads.word_field_at bytes.now }
 {
-    let (word, rest) = word_at(bytes)?;
-    let rest = after(b" ", rest)?;
-    Some((word, rest))
+    ended(word_at(bytes), b' ')
 }
 
 #[tactic(auto, unfolding(crate::specs::TraceLines::second_fields_at))]
@@ -162,19 +161,18 @@ fn loaded_at(bytes: &[u8]) -> Option<(Option<u32>, &[u8])>
     Some((Some(word), rest))
 }
 
+const ANSWERS: [(&[u8], Option<bool>); 3] = [
+    (b"-", None),
+    (b"ok", Some(true)),
+    (b"fail", Some(false)),
+];
+
 #[inline(always)]
 #[tactic(auto, unfolding(crate::specs::TraceReading::answer_at))]
 fn answer_at(bytes: &[u8]) -> Option<(Option<bool>, &[u8])>
     ensures { option_map (λ x. (x.0, x.1.now)) result ≡ words_at.answer_at bytes.now }
 {
-    if let Some(rest) = after(b"-", bytes) {
-        return Some((None, rest));
-    }
-    if let Some(rest) = after(b"ok", bytes) {
-        return Some((Some(true), rest));
-    }
-    let rest = after(b"fail", bytes)?;
-    Some((Some(false), rest))
+    word_of(&ANSWERS, bytes)
 }
 
 #[inline(always)]
@@ -182,9 +180,7 @@ fn answer_at(bytes: &[u8]) -> Option<(Option<bool>, &[u8])>
 fn loaded_field_at(bytes: &[u8]) -> Option<(Option<u32>, &[u8])>
     ensures { option_map (λ x. (x.0, x.1.now)) result ≡ reads.loaded_field_at bytes.now }
 {
-    let (loaded, rest) = loaded_at(bytes)?;
-    let rest = after(b" ", rest)?;
-    Some((loaded, rest))
+    ended(loaded_at(bytes), b' ')
 }
 
 #[inline(always)]
@@ -192,9 +188,7 @@ fn loaded_field_at(bytes: &[u8]) -> Option<(Option<u32>, &[u8])>
 fn answer_line_at(bytes: &[u8]) -> Option<(Option<bool>, &[u8])>
     ensures { option_map (λ x. (x.0, x.1.now)) result ≡ reads.answer_line_at bytes.now }
 {
-    let (sc_ok, rest) = answer_at(bytes)?;
-    let rest = after(b"\n", rest)?;
-    Some((sc_ok, rest))
+    ended(answer_at(bytes), b'\n')
 }
 
 /// A retired instruction, behind its hart.
@@ -276,8 +270,7 @@ pub(crate) fn logged_at(
     let (direction, rest) = direction_at(bytes)?;
     let (letter, rest) = letter_at(rest)?;
     let (hart, rest) = number_at(rest, b' ', harts as u32 - 1)?;
-    let (message, rest) = message_at(rest, size)?;
-    let rest = after(b"\n", rest)?;
+    let (message, rest) = ended(message_at(rest, size), b'\n')?;
     let hart = hart as u8;
     if letter == letter_of(message.channel()) && is_line(message.line, kib, size) {
         let entry = Logged {
