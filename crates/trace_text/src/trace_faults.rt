@@ -13,13 +13,14 @@ ghost use Rattle.trace_text.specs.TraceStops.{IsTraceLeft, IsTraceStop, IsHeader
 use crate::fault::{Stop, TextCode, TextError, is_word, line_at};
 use crate::head::TraceHead;
 use crate::message_reading::data_at;
+use crate::reading::ended;
 use crate::trace_lines::{
     first_numbers_at, head_at, is_line, logged_at, operation_at, retired_at, second_numbers_at,
-    status_at,
+    status_at, word_field_at,
 };
 use crate::trace_writing::any_set;
 use crate::version::is_first_version;
-use text_fields::{after, number_at, word_at};
+use text_fields::{after, number_at};
 
 /// The fault of a trace whose reader stopped there.
 pub(crate) fn trace_fault(bytes: &[u8], stop: Stop) -> TextError
@@ -167,15 +168,13 @@ fn after_head<'a>(fields: &'a [u8], head: &TraceHead) -> Option<&'a [u8]>
     }
 }
 
-#[tactic(auto, unfolding(crate::specs::AnyLineReading::image_fields_at, crate::specs::TraceLines::word_field_at))]
+#[tactic(auto, unfolding(crate::specs::AnyLineReading::image_fields_at))]
 fn after_image<'a>(fields: &'a [u8], head: &TraceHead) -> Option<&'a [u8]>
     requires { IsTraceHead head.now }
     ensures { option_map (λ r. r.now) result ≡ left (image_fields_at head.now fields.now) }
 {
-    let (address, rest) = word_at(fields)?;
-    let rest = after(b" ", rest)?;
-    let (data, rest) = data_at(rest, head.line)?;
-    let rest = after(b"\n", rest)?;
+    let (address, rest) = word_field_at(fields)?;
+    let (data, rest) = ended(data_at(rest, head.line), b'\n')?;
     if any_set(data.as_slice()) && is_line(address, head.kib, head.line) {
         Some(rest)
     } else {

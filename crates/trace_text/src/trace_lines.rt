@@ -60,7 +60,7 @@ pub(crate) fn first_numbers_at(bytes: &[u8]) -> Option<(TraceHead, &[u8])>
 /// A word, and the space behind it.
 #[inline(always)]
 #[tactic(auto, unfolding(crate::specs::TraceLines::word_field_at))]
-fn word_field_at(bytes: &[u8]) -> Option<(u32, &[u8])>
+pub(crate) fn word_field_at(bytes: &[u8]) -> Option<(u32, &[u8])>
     ensures { option_map (λ x. (x.0, x.1.now)) result ≡ reads.word_field_at bytes.now }
 {
     ended(word_at(bytes), b' ')
