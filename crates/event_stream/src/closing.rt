@@ -2,6 +2,7 @@
 ghost use Rattle.std.specs.Prelude.{◌≡◌, ◌+◌, ◌<◌, ◌≤◌, ◌∷◌, ◌++◌, [], codes, length};
 ghost use Rattle.coherent_machine.specs.Machine.{IsReached};
 ghost use Rattle.event_stream.specs.Closing as closing;
+ghost use Rattle.event_stream.specs.Lines.{disassembled};
 ghost use Rattle.text_fields.specs.Fields.{numbered};
 ghost use Rattle.text_fields.specs.Pages.{HasLineRoom, Spells, size};
 ghost use Rattle.trace_text.specs.Traces.{status_ended};
@@ -14,6 +15,7 @@ use elf_symbols::Symbols;
 use hart::{Status, instr_at};
 use machine_model::sound_always;
 use machine_types::{Event, Outcome};
+use rv32_decode::Instr;
 use std::io::{self, Write};
 use text_fields::Page;
 use trace_text::spell_status;
@@ -71,6 +73,18 @@ fn put_answer<W: Write>(
     }
 }
 
+/// An instruction at this address behind a semicolon, where there is one.
+fn spell_disassembled(page: &mut Page, names: &Symbols, pc: u32, instr: Option<Instr>)
+    requires { length page.old + 191 ≤ size }
+    ensures value { page.new ≡ page.old ++ disassembled names.now pc instr }
+    ensures len { length page.new ≤ length page.old + 191 }
+{
+    if let Some(instr) = instr {
+        page.text(b" ; ");
+        spell_instruction(page, names, pc, &instr);
+    }
+}
+
 /// The hart's next instruction, and the end of the line.
 fn spell_next(page: &mut Page, names: &Symbols, machine: &Machine, hart: usize)
     requires room { HasLineRoom page.old }
@@ -78,10 +92,7 @@ fn spell_next(page: &mut Page, names: &Symbols, machine: &Machine, hart: usize)
     ensures { page.new ≡ page.old ++ (closing.next_text names.now machine.now hart ++ 10 ∷ []) }
 {
     let pc = machine.views().hart(hart).pc;
-    if let Some(instr) = instr_at(machine.trace().image(), pc) {
-        page.text(b" ; ");
-        spell_instruction(page, names, pc, &instr);
-    }
+    spell_disassembled(page, names, pc, instr_at(machine.trace().image(), pc));
     page.text(b"\n");
 }
 

@@ -9,6 +9,13 @@ use Rattle.event_stream.proofs.closing.put_statuses.Goals as goal
 others_are : {X : Type 0} (f : ℕ → X → List ℕ) (h : ℕ) (xs : List X) → numbered f h (take (length xs - 1) (drop 1 xs)) ≡ numbered f h (drop 1 xs)
 others_are f h xs = ap (numbered f h) (take_all (length xs - 1) (drop 1 xs) (omega (arith, length-drop 1 xs)))
 
+pub put_status-requires-clause-hart : goal.put_status-requires-clause-hart
+put_status-requires-clause-hart g c =
+    omega (arith, c.loop-rest.invariant.place, c.loop-rest.invariant.sized.statuses, c.in-len1-up.len_at_least)
+
+pub put_status-requires-clause-sets : goal.put_status-requires-clause-sets
+put_status-requires-clause-sets g c = c.loop-rest.invariant.sized.sets
+
 pub returns-in_err-put_status : goal.returns-in_err-put_status
 returns-in_err-put_status g c =
     page_stops _ _ _ _ _ _ c.from_residual.ensures.0
