@@ -1,10 +1,13 @@
 //! Writing a stream.
 ghost use Rattle.std.specs.Prelude.{◌≡◌, ◌++◌, Err, IfErr, IfOk};
 ghost use Rattle.coherent_machine.specs.Machine.{IsReached};
+ghost use Rattle.elf_loader.specs.Image.{Initial};
 ghost use Rattle.event_stream.specs.Reports.{StreamEnding};
 ghost use Rattle.event_stream.specs.Streams as streams;
 ghost use Rattle.event_stream.specs.Telling.{IsHandedOn, IsTold};
 ghost use Rattle.event_stream.specs.Writing.{IsStreamUnfinished, IsWholeStream};
+ghost use Rattle.machine_model.specs.Views.{opening};
+ghost use Rattle.machine_types.specs.declared.config.Config.{Config};
 ghost use Rattle.text_fields.specs.Pages.{HasLineRoom, Spells};
 ghost use Rattle.text_fields.specs.Writing.{Writes};
 
@@ -118,6 +121,32 @@ fn put_closing<W: Write>(
     page.hand_on(out)
 }
 
+/// Tells the events of a machine at reset, and all that stands around them.
+fn write_events<W: Write>(
+    machine: &mut Machine,
+    events: &[Event],
+    strictness: Strictness,
+    names: &Symbols,
+    out: &mut W,
+) -> Result<(), StreamError>
+    requires { IsReached machine.old }
+    ensures whole { (image : Initial) (config : Config) → machine.old ≡ opening image config → IfOk result (λ _. IsWholeStream names.now strictness image config events.now (W.contents out.old) (W.contents out.new) machine.new) }
+    ensures reached { IsReached machine.new }
+    ensures unfinished { (image : Initial) (config : Config) → machine.old ≡ opening image config → IfErr result (λ error. IsStreamUnfinished names.now strictness image config events.now (W.contents out.old) (W.contents out.new) error) }
+{
+    let mut page = Page::new();
+    if let Err(fault) = put_opening(&mut page, out, machine.trace()) {
+        return Err(StreamError::Writing(fault));
+    }
+    if let Err(error) = tell(machine, events, strictness, names, &mut page, out) {
+        return Err(error);
+    }
+    match put_closing(&mut page, out, names, machine) {
+        Ok(()) => Ok(()),
+        Err(fault) => Err(StreamError::Writing(fault)),
+    }
+}
+
 /// Applies the events in their order to a machine at reset, and writes what each did, with the names that
 /// addresses have. A write that takes no byte is a writer's fault.
 pub fn write_stream<W: Write>(
@@ -134,15 +163,8 @@ pub fn write_stream<W: Write>(
     ensures unfinished { IfErr result (λ error. IsStreamUnfinished names.now strictness image config events.now (W.contents out.old) (W.contents out.new) error) }
 {
     let mut machine = Machine::new(alloc, image, config)?;
-    let mut page = Page::new();
-    if let Err(fault) = put_opening(&mut page, out, machine.trace()) {
-        return Err(StreamError::Writing(fault));
-    }
-    if let Err(error) = tell(&mut machine, events, strictness, names, &mut page, out) {
-        return Err(error);
-    }
-    match put_closing(&mut page, out, names, &machine) {
+    match write_events(&mut machine, events, strictness, names, out) {
         Ok(()) => Ok(machine),
-        Err(fault) => Err(StreamError::Writing(fault)),
+        Err(error) => Err(error),
     }
 }
