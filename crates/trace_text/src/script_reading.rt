@@ -157,12 +157,12 @@ fn first_fields_at(bytes: &[u8]) -> Option<(Head, &[u8])>
     let rest = after(b"rvtl-script 1 ", bytes)?;
     let (harts, rest) = number_at(rest, b' ', MOST)?;
     let (kib, rest) = number_at(rest, b' ', MOST)?;
-    let (last, rest) = last_two_at(rest)?;
+    let ((sets, ways), rest) = last_two_at(rest)?;
     let head = Head {
         harts,
         kib,
-        sets: last.0,
-        ways: last.1,
+        sets,
+        ways,
         line: LineSize::Bytes16,
     };
     Some((head, rest))
@@ -188,13 +188,13 @@ fn second_fields_at(bytes: &[u8]) -> Option<(Head, &[u8])>
     let (harts, rest) = number_at(rest, b' ', MOST)?;
     let (kib, rest) = number_at(rest, b' ', MOST)?;
     let (sets, rest) = number_at(rest, b' ', MOST)?;
-    let (last, rest) = ways_and_size_at(rest)?;
+    let ((ways, line), rest) = ways_and_size_at(rest)?;
     let head = Head {
         harts,
         kib,
         sets,
-        ways: last.0,
-        line: last.1,
+        ways,
+        line,
     };
     Some((head, rest))
 }
