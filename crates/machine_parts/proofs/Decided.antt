@@ -1,7 +1,7 @@
 -- What stands once an event is decided under the limits.
-use Rattle.std.proofs.Common.{◌≡◌, ◌≢◌, ◌∙◌, ◌+◌, ◌%◌, ◌≤◌, refl, sym, ap, subst, ℕ, Bool, true, false, Ok, Err, inl, inr}
-use Rattle.std.proofs.lemmas.Bool.{ltb-false, or_parts}
-use Rattle.std.specs.Prelude.{◌==◌, if◌then◌else◌, nat_le, nat_lt}
+use Rattle.std.proofs.Common.{◌≡◌, ◌≢◌, ◌∙◌, ◌+◌, ◌%◌, ◌<◌, ◌≤◌, length, refl, sym, ap, subst, ℕ, Bool, true, false, Ok, Err, inl, inr}
+use Rattle.std.proofs.lemmas.Bool.{and_parts, ltb-false, ltb-true, or_parts}
+use Rattle.std.specs.Prelude.{◌==◌, if◌then◌else◌, IsTrue, nat_le, nat_lt}
 use Rattle.std.specs.declared.result.Result.{Result}
 use Rattle.std.specs.Result.{IsErrAnd}
 use Rattle.machine_types.specs.declared.limits.TheConstants.{MAX_CHANGES, MAX_ENTRIES}
@@ -13,7 +13,7 @@ use Rattle.machine_types.specs.declared.outcome.Outcome.{Outcome}
 use Rattle.machine_model.specs.declared.act.Act.TheVariants as act
 use Rattle.machine_types.specs.declared.outcome.Outcome.TheVariants.{Stopped}
 use Rattle.machine_model.specs.Changing.{acted, outcome_by, outcome_of_act, next_place}
-use Rattle.machine_model.specs.Events.{Verdict, counted, entries_by, hart_of, is_good, is_limited, plan_of, verdict, verdict_by}
+use Rattle.machine_model.specs.Events.{Verdict, counted, entries_by, hart_of, is_good, is_limited, names_well, plan_of, verdict, verdict_by}
 use Rattle.machine_model.specs.Events.Verdict.{IsBad, Keeps, IsLimited, Moves}
 use Rattle.machine_model.specs.Ready.{AreReady, IsReady}
 use Rattle.machine_model.specs.Views.{State, node_at}
@@ -24,6 +24,12 @@ use Rattle.hart.specs.Run.{status_after}
 use Rattle.rv32_exec.specs.Meaning.{Access, Private, Loads, Stores, DoesLr, DoesSc, DoesAmo, Fences, Calls, access_of}
 use Rattle.machine_parts.specs.declared.errors.ApplyError.{ApplyError}
 use Rattle.machine_parts.specs.declared.errors.ApplyError.TheVariants.{BadEvent, Limit, NoMemory}
+
+-- the hart that a good event names is there
+pub hart_there : (s : State) (e : Event) (h : ℕ) → h ≡ hart_of e → IsTrue (is_good s e) → h < length s.views.nodes
+hart_there s e h own good =
+    let count = length s.views.nodes in
+    subst (λ (k : ℕ). k < count) (sym own) (ltb-true (hart_of e) count (and_parts (nat_lt (hart_of e) count) (names_well s e) good).0)
 
 -- the event is good, this is its plan, and no limit stands against its act
 pub record IsDecided (s : State) (e : Event) (a : Act) : Type 0 where

@@ -4,7 +4,7 @@ use Rattle.std.proofs.Common.{sym, ◌∙◌, ap}
 use Rattle.std.specs.declared.result.Result.{Result}
 use Rattle.client_cache.specs.Cache.{Cache}
 use Rattle.machine_model.specs.Deciding.{reading, writing}
-use Rattle.machine_model.specs.Steps.{Fetched, plan_amo, plan_load, retires, update, write_waits}
+use Rattle.machine_model.specs.Steps.{Fetched, plan_amo, plan_load, plan_lr, retires, update, waits_for_stores, write_waits}
 use Rattle.machine_model.specs.Views.{Node}
 use Rattle.machine_model.specs.Words.{read_from, word_in, word_of}
 use Rattle.machine_model.specs.declared.act.Deed.TheVariants as deed
@@ -67,3 +67,25 @@ amo_writing model n f address op operand line buffer cache found copy same free 
     let none = ap (λ (b : Groups). write_waits model b f.instr address) (sym same) ∙ free in
     sym (writes go ∙ ap (with_line go) is) ∙ (ap (λ (c : Cache). writing go c line) there ∙ (ap (writing go n.cache) at
     ∙ sym (ap (λ (b : Bool). if b then Stays MustDrain else writing go n.cache (line_of n.cache.shape.size address)) none)))
+
+-- ---- LRs
+
+abbrev pub lr_of : Node → Fetched → (address : ℕ) → LineData → Plan
+lr_of n f address line = retires n f (Some (read_from (word_in line address) address 4)) None (deed.Lr address)
+
+lr_by : (n : Node) (f : Fetched) (address : ℕ) (buffer : Groups) (waits : Bool) → buffer ≡ n.buffer → waits_for_stores buffer f.instr address ≡ waits
+    → (if waits then Stays MustDrain else writing (lr_of n f address) n.cache (line_of n.cache.shape.size address)) ≡ plan_lr n f address
+lr_by n f address buffer waits same found =
+    ap (λ (b : Bool). if b then Stays MustDrain else writing (lr_of n f address) n.cache (line_of n.cache.shape.size address)) (sym found ∙ ap (λ (b : Groups). waits_for_stores b f.instr address) same)
+
+-- one that stores hold up
+pub lr_waiting : (n : Node) (f : Fetched) (address : ℕ) (buffer : Groups) → buffer ≡ n.buffer → waits_for_stores buffer f.instr address ≡ true → Stays MustDrain ≡ plan_lr n f address
+lr_waiting n f address buffer same held = lr_by n f address buffer true same held
+
+-- one that no store holds up
+pub lr_writing : (n : Node) (f : Fetched) (address line : ℕ) (buffer : Groups) (cache : Cache) (found copy : Result LineData Plan)
+    → buffer ≡ n.buffer → waits_for_stores buffer f.instr address ≡ false → line ≡ line_of n.cache.shape.size address → cache ≡ n.cache → ((go : LineData → Plan) → writing go cache line ≡ with_line go found) → found ≡ copy
+    → with_line (lr_of n f address) copy ≡ plan_lr n f address
+lr_writing n f address line buffer cache found copy same free at there writes is =
+    let go = lr_of n f address in
+    sym (writes go ∙ ap (with_line go) is) ∙ (ap (λ (c : Cache). writing go c line) there ∙ (ap (writing go n.cache) at ∙ lr_by n f address buffer false same free))
