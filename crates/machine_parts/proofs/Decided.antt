@@ -58,7 +58,11 @@ acts s e a is =
     let found = acts_by_good s (hart_of e) (plan_of s e) a (is_good s e) is in
     record { good = found.0; plan = found.1.0; fits = found.1.1 }
 
--- so it is ready, and has room in its hart's list
+-- so its hart is there
+pub there : (s : State) (h : ℕ) (e : Event) (a : Act) → h ≡ hart_of e → decided s e ≡ Ok (Changes a) → h < length s.views.nodes
+there s h e a own is = hart_there s e h own (acts s e a is).good
+
+-- it is ready, and has room in its hart's list
 pub ready : (s : State) (h : ℕ) (e : Event) (a : Act) → h ≡ hart_of e → AreReady s → decided s e ≡ Ok (Changes a) → IsReady h a s
 ready s h e a own all is =
     let found = acts s e a is in
@@ -120,6 +124,9 @@ answers_by IsBad s error is = (sym is, refl)
 answers_by (Keeps o) s error is = absurd (cc (is))
 answers_by IsLimited s error is = (sym is, refl)
 answers_by (Moves o new) s error is = absurd (cc (is))
+
+pub answers_kept : (s : State) (e : Event) (o : Outcome) → decided s e ≡ Ok (Stays o) → Answers (verdict s e) s (Ok o) s
+answers_kept s e o is = subst (λ (v : Verdict). Answers v s (Ok o) s) (sym (keeps s e o is)) (refl, refl)
 
 pub answers_refused : (s : State) (e : Event) (error : ApplyError) → decided s e ≡ Err error → Answers (verdict s e) s (Err error) s
 answers_refused s e error is = answers_by (verdict s e) s error (refused s e error is)

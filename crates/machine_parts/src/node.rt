@@ -51,13 +51,15 @@ impl Node {
     pub fn new(alloc: Global, image: &Image, config: &Config, id: u8) -> Result<Node, AllocError>
         ensures { IfOk result (λ node. node ≡ opening_node image.now config.now id) }
     {
+        let cache = ClientCache::new(alloc, config.sets, config.ways, config.line)?;
+        let queues = Queues::new(alloc)?;
         Ok(Node {
             hart: Hart::at_reset(id, image.entry(), config.harts),
             output: Vec::new(alloc),
             reservation: Reservation::none(),
             buffer: StoreBuffer::new(alloc),
-            cache: ClientCache::new(alloc, config.sets, config.ways, config.line)?,
-            queues: Queues::new(alloc)?,
+            cache,
+            queues,
         })
     }
 

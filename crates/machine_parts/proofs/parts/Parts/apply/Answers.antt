@@ -1,17 +1,38 @@
-use Rattle.std.proofs.Common.{◌∙◌, ◌+◌, ◌≤◌, arith, ap, refl, subst, sym, Ok}
+use Rattle.std.proofs.Common.{◌∙◌, ◌+◌, ◌<◌, ◌≤◌, length, arith, ap, refl, subst, sym, Ok}
 use Rattle.machine_types.specs.declared.limits.TheConstants.{MAX_ENTRIES}
 use Rattle.machine_model.specs.Changing.{next_place}
 use Rattle.machine_model.specs.Events.{counted, entries_by}
 use Rattle.machine_model.specs.Changing.{acted}
-use Rattle.machine_model.specs.Ready.{IsReady}
+use Rattle.machine_model.specs.Ready.{IsReady, IsSound}
 use Rattle.machine_model.specs.Views.{State}
 use Rattle.machine_parts.proofs.Changes.{acted_keeps_changes}
-use Rattle.machine_parts.proofs.Decided.{answers_moved, answers_refused, answers_wanting, in_list, ready}
+use Rattle.machine_parts.proofs.Decided.{answers_kept, answers_moved, answers_refused, answers_wanting, in_list, ready, there}
+use Rattle.machine_parts.specs.Needs.{HasNeeded, needs_of}
 use Rattle.machine_parts.specs.Standing.{Standing}
 use Rattle.machine_parts.proofs.parts.Parts.apply.Goals as goal
 
 pub returns-in-Err : goal.returns-in-Err
 returns-in-Err c = answers_refused c.args.self.now.state c.args.event.now c.in-Err.error (sym c.in-Err.ensures)
+
+pub returns-in-Ok-Stays : goal.returns-in-Ok-Stays
+returns-in-Ok-Stays c = answers_kept c.args.self.now.state c.args.event.now c.in-Ok-Stays.outcome (sym c.in-Ok-Stays.ensures ∙ ap Ok c.in-Ok-Stays.field-0-is)
+
+pub outcome_of-outcome-requires : goal.outcome_of-outcome-requires
+outcome_of-outcome-requires c = record { hart = there c.args.self.now.state c.hart_of-hart.result c.args.event.now c.in-Ok-Changes.act c.hart_of-hart.ensures (sym c.in-Ok-Changes.ensures ∙ ap Ok c.in-Ok-Changes.field-0-is) }
+
+pub reserve-requires-clause-hart : goal.reserve-requires-clause-hart
+reserve-requires-clause-hart c = there c.args.self.now.state c.hart_of-hart.result c.args.event.now c.in-Ok-Changes.act c.hart_of-hart.ensures (sym c.in-Ok-Changes.ensures ∙ ap Ok c.in-Ok-Changes.field-0-is)
+
+pub perform-requires-clause-sound : goal.perform-requires-clause-sound
+perform-requires-clause-sound c = subst IsSound (sym c.reserve.ensures.same) c.requires.sound
+
+pub perform-requires-clause-hart : goal.perform-requires-clause-hart
+perform-requires-clause-hart c =
+    subst (λ (s : State). c.hart_of-hart.result < length s.views.nodes) (sym c.reserve.ensures.same)
+    (there c.args.self.now.state c.hart_of-hart.result c.args.event.now c.in-Ok-Changes.act c.hart_of-hart.ensures (sym c.in-Ok-Changes.ensures ∙ ap Ok c.in-Ok-Changes.field-0-is))
+
+pub perform-requires-clause-room : goal.perform-requires-clause-room
+perform-requires-clause-room c = subst (λ (s : State). HasNeeded c.hart_of-hart.result (needs_of s c.hart_of-hart.result c.in-Ok-Changes.act) c.reserve.new.parts.room) (sym c.reserve.ensures.same) c.in_ok-reserve.ensures.room
 
 pub reserve-requires-clause-ready : goal.reserve-requires-clause-ready
 reserve-requires-clause-ready c =
