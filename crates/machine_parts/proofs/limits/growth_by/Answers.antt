@@ -1,4 +1,4 @@
-use Rattle.std.proofs.Common.{ℕ, ◌≡◌, ◌+◌, ◌∙◌, ap, refl, subst, sym}
+use Rattle.std.proofs.Common.{ℕ, ◌≡◌, refl, subst, sym}
 use Rattle.machine_model.specs.declared.act.Act.{Act}
 use Rattle.machine_model.specs.Ready.{IsReadyAct}
 use Rattle.machine_model.specs.Views.{State}
