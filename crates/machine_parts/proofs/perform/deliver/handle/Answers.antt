@@ -1,4 +1,4 @@
-use Rattle.std.proofs.Common.{◌≡◌, ◌∙◌, ℕ, ap, subst, sym}
+use Rattle.std.proofs.Common.{◌≡◌, ◌<◌, ◌≤◌, ◌∙◌, ℕ, ap, arith, subst, sym}
 use Rattle.machine_model.specs.Deliveries.{handled}
 use Rattle.machine_model.specs.Laws.{QueuesFit}
 use Rattle.machine_model.specs.Ready.{IsReadyBody}
@@ -15,6 +15,13 @@ ready_of h line body is s e = subst (λ (b : Body). IsReadyBody h line b s) e
 
 handled_of : (h line : ℕ) (body is : Body) (s new : State) → body ≡ is → new ≡ handled h line is s → new ≡ handled h line body s
 handled_of h line body is s new e done = done ∙ sym (ap (λ (b : Body). handled h line b s) e)
+
+-- the hart is one of so many
+noted : (h harts nodes : ℕ) → harts ≡ nodes → h < nodes → h < harts
+noted h harts nodes e l = subst (λ n. h < n) (sym e) l
+
+room_left : (h nodes log : ℕ) → h < nodes → nodes ≤ log → 0 < log
+room_left h nodes log l few = omega arith
 
 pub on_acquire-requires-clause-queues : goal.on_acquire-requires-clause-queues
 on_acquire-requires-clause-queues c = fit_of c.args.hart c.args.message.now.line c.args.message.now.body _ c.args.parts.now.state c.in-AcquireBlock.is c.requires.queues
@@ -87,3 +94,39 @@ returns-in-ReleaseAck c = handled_of c.args.hart c.args.message.now.line c.args.
 
 pub returns-in-GrantAck : goal.returns-in-GrantAck
 returns-in-GrantAck c = handled_of c.args.hart c.args.message.now.line c.args.message.now.body _ c.args.parts.now.state c.on_grant_ack.new.parts.state c.in-GrantAck.is c.on_grant_ack.ensures
+
+pub on_acquire-requires-clause-hart : goal.on_acquire-requires-clause-hart
+on_acquire-requires-clause-hart c = noted c.args.hart _ _ c.requires.harts c.requires.hart
+
+pub on_probe_ack-requires-clause-hart : goal.on_probe_ack-requires-clause-hart
+on_probe_ack-requires-clause-hart c = noted c.args.hart _ _ c.requires.harts c.requires.hart
+
+pub on_probe_ack-requires-in-ProbeAckData-clause-hart : goal.on_probe_ack-requires-in-ProbeAckData-clause-hart
+on_probe_ack-requires-in-ProbeAckData-clause-hart c = noted c.args.hart _ _ c.requires.harts c.requires.hart
+
+pub on_release-requires-clause-noted : goal.on_release-requires-clause-noted
+on_release-requires-clause-noted c = noted c.args.hart _ _ c.requires.harts c.requires.hart
+
+pub on_release-requires-in-ReleaseData-clause-noted : goal.on_release-requires-in-ReleaseData-clause-noted
+on_release-requires-in-ReleaseData-clause-noted c = noted c.args.hart _ _ c.requires.harts c.requires.hart
+
+pub on_probe-requires-clause-log : goal.on_probe-requires-clause-log
+on_probe-requires-clause-log c = room_left c.args.hart _ _ c.requires.hart c.requires.log
+
+pub on_probe_ack-requires-clause-log : goal.on_probe_ack-requires-clause-log
+on_probe_ack-requires-clause-log c = room_left c.args.hart _ _ c.requires.hart c.requires.log
+
+pub on_probe_ack-requires-in-ProbeAckData-clause-log : goal.on_probe_ack-requires-in-ProbeAckData-clause-log
+on_probe_ack-requires-in-ProbeAckData-clause-log c = room_left c.args.hart _ _ c.requires.hart c.requires.log
+
+pub on_release-requires-clause-log : goal.on_release-requires-clause-log
+on_release-requires-clause-log c = room_left c.args.hart _ _ c.requires.hart c.requires.log
+
+pub on_release-requires-in-ReleaseData-clause-log : goal.on_release-requires-in-ReleaseData-clause-log
+on_release-requires-in-ReleaseData-clause-log c = room_left c.args.hart _ _ c.requires.hart c.requires.log
+
+pub on_grant-requires-clause-log : goal.on_grant-requires-clause-log
+on_grant-requires-clause-log c = room_left c.args.hart _ _ c.requires.hart c.requires.log
+
+pub on_grant-requires-in-GrantData-clause-log : goal.on_grant-requires-in-GrantData-clause-log
+on_grant-requires-in-GrantData-clause-log c = room_left c.args.hart _ _ c.requires.hart c.requires.log
