@@ -36,17 +36,26 @@ pub fn realise(
     ensures index { IfErr result (IsOneOf (length steps.now)) }
 {
     let mut player = Player::new(alloc, image, config)?;
-    for index in 0..steps.len() {
-        player.settle(alloc)?;
-        if !player.bring_about(steps[index])? {
-            return Err(RealiseError::Unrealised(index));
-        }
-    }
-    player.settle(alloc)?;
+    player.bring_all_about(alloc, steps)?;
     Ok(player.into_schedule(alloc)?)
 }
 
 impl Player {
+    // Brings the events about, with the quiet steps before each of them and behind the last one.
+    fn bring_all_about(&mut self, alloc: Global, steps: &[FlatEvent]) -> Result<(), RealiseError>
+        ensures start { start_of self.new ≡ start_of self.old }
+        ensures index { IfErr result (IsOneOf (length steps.now)) }
+    {
+        for index in 0..steps.len() {
+            self.settle(alloc)?;
+            if !self.bring_about(steps[index])? {
+                return Err(RealiseError::Unrealised(index));
+            }
+        }
+        self.settle(alloc)?;
+        Ok(())
+    }
+
     // Whether it was brought about.
     fn bring_about(&mut self, step: FlatEvent) -> Result<bool, Fault>
         ensures { start_of self.new ≡ start_of self.old }
