@@ -153,15 +153,31 @@ impl<G: Goal> Script<'_, G> {
     {
         let image = self.image.try_copy(self.alloc)?;
         let mut player = Player::new(self.alloc, image, self.config)?;
-        match player.play_without(events, from, to) {
-            Ok(()) => {}
-            Err(Fault::NoMemory) => return Err(AllocError),
-            Err(Fault::Limit) => return Ok(None),
-        }
-        if !self.goal.is_met(player.machine())? {
+        if !self.leads_there(&mut player, events, from, to)? {
             return Ok(None);
         }
         Ok(Some(player.into_events()))
+    }
+
+    // Plays the events outside the indices. Whether that leads there, within the machine's limits.
+    fn leads_there(
+        &self,
+        player: &mut Player,
+        events: &[Event],
+        from: usize,
+        to: usize,
+    ) -> Result<bool, AllocError>
+        requires asked { G.CanBeAsked self.now.goal.now }
+        requires fresh { player.old.events ≡ [] }
+        ensures start { start_of player.new ≡ start_of player.old }
+        ensures sublist { result ≡ Ok true → IsSublist player.new.events events.now }
+        ensures there { result ≡ Ok true → G.Holds self.now.goal.now player.new.machine }
+    {
+        match player.play_without(events, from, to) {
+            Ok(()) => self.goal.is_met(player.machine()),
+            Err(Fault::NoMemory) => Err(AllocError),
+            Err(Fault::Limit) => Ok(false),
+        }
     }
 }
 
