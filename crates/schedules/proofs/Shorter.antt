@@ -1,5 +1,5 @@
 -- Lists that leave out elements of lists.
-use Rattle.std.proofs.Common.{◌≡◌, inl, inr, refl, sym, ap, subst, arith, ℕ, ◌+◌, ◌-◌, ◌<◌, ◌≤◌, List, [], ◌∷◌, ◌++◌, drop, length, take, get_or}
+use Rattle.std.proofs.Common.{◌≡◌, inl, inr, refl, sym, ap, subst, arith, ℕ, ◌+◌, ◌-◌, ◌<◌, ◌≤◌, List, [], ◌∷◌, ◌++◌, drop, length, length-append, take, get_or}
 use Rattle.std.proofs.lemmas.List.{append-nil, append_assoc, length-drop, take_all, take_more}
 use Rattle.machine_types.specs.declared.event.Event.{Event}
 use Rattle.schedules.specs.Schedules.{MayAdd}
@@ -75,3 +75,11 @@ one_before xs rest all d new some k before vs p =
 
 pub all_before : (xs rest all : List Event) → IsSomeBefore xs rest all → IsSublist xs all
 all_before xs rest all before = subst (λ l. IsSublist l all) (append-nil xs) (before [] (nothing rest))
+
+-- at most one is added
+pub at_most_one : (old new : List Event) (e : Event) → MayAdd old e new → length new ≤ length old + 1
+at_most_one old new e kept =
+    elim kept [
+      | inl out ↦ let same : length new ≡ length old = ap length out in omega arith
+      | inr more ↦ let same : length new ≡ length (old ++ e ∷ []) = ap length more in omega (arith, length-append old (e ∷ []))
+    ]

@@ -6,6 +6,7 @@ use Rattle.schedules.specs.Schedules.{Played, start_of}
 use Rattle.schedules.specs.Sublists.{IsSublist}
 use Rattle.schedules.proofs.Played.{leads_there, leads_to, real_at}
 use Rattle.schedules.proofs.Shorter.{through}
+use Rattle.std.proofs.lemmas.Result.{IfOk-from_err}
 use Rattle.schedules.proofs.shortening.shorten.Goals as goal
 
 pub shortened-requires-clause-good : goal.shortened-requires-clause-good
@@ -30,3 +31,63 @@ returns-then-not-is_there-clause-there g c there =
     let all = sym (ap (λ (s : State). after_events s c.args.events.now) opens) ∙ leads in
     let kept = real_at reset (start_of c.replay.new.self) c.replay.new.self.machine c.into_events-changing.result.items starts c.into_events-changing.ensures.leads in
     subst (g.G.Goal.Holds c.args.goal.now) (all ∙ kept) there
+
+pub returns-in_err-try_copy-clause-there : goal.returns-in_err-try_copy-clause-there
+returns-in_err-try_copy-clause-there g c = λ _. IfOk-from_err c.from_residual.result _ c.from_residual.ensures.0
+
+pub returns-in_err-try_copy-clause-replays : goal.returns-in_err-try_copy-clause-replays
+returns-in_err-try_copy-clause-replays g c = IfOk-from_err c.from_residual.result _ c.from_residual.ensures.0
+
+pub returns-in_err-try_copy-clause-moves : goal.returns-in_err-try_copy-clause-moves
+returns-in_err-try_copy-clause-moves g c = IfOk-from_err c.from_residual.result _ c.from_residual.ensures.0
+
+pub returns-in_err-try_copy-clause-sublist : goal.returns-in_err-try_copy-clause-sublist
+returns-in_err-try_copy-clause-sublist g c = IfOk-from_err c.from_residual.result _ c.from_residual.ensures.0
+
+pub returns-in_err-player-clause-there : goal.returns-in_err-player-clause-there
+returns-in_err-player-clause-there g c = λ _. IfOk-from_err c.from_residual-in_err-player.result _ c.from_residual-in_err-player.ensures.0
+
+pub returns-in_err-player-clause-replays : goal.returns-in_err-player-clause-replays
+returns-in_err-player-clause-replays g c = IfOk-from_err c.from_residual-in_err-player.result _ c.from_residual-in_err-player.ensures.0
+
+pub returns-in_err-player-clause-moves : goal.returns-in_err-player-clause-moves
+returns-in_err-player-clause-moves g c = IfOk-from_err c.from_residual-in_err-player.result _ c.from_residual-in_err-player.ensures.0
+
+pub returns-in_err-player-clause-sublist : goal.returns-in_err-player-clause-sublist
+returns-in_err-player-clause-sublist g c = IfOk-from_err c.from_residual-in_err-player.result _ c.from_residual-in_err-player.ensures.0
+
+pub returns-in_err-replay-clause-there : goal.returns-in_err-replay-clause-there
+returns-in_err-replay-clause-there g c = λ _. IfOk-from_err c.from_residual-in_err-replay.result _ c.from_residual-in_err-replay.ensures.0
+
+pub returns-in_err-replay-clause-replays : goal.returns-in_err-replay-clause-replays
+returns-in_err-replay-clause-replays g c = IfOk-from_err c.from_residual-in_err-replay.result _ c.from_residual-in_err-replay.ensures.0
+
+pub returns-in_err-replay-clause-moves : goal.returns-in_err-replay-clause-moves
+returns-in_err-replay-clause-moves g c = IfOk-from_err c.from_residual-in_err-replay.result _ c.from_residual-in_err-replay.ensures.0
+
+pub returns-in_err-replay-clause-sublist : goal.returns-in_err-replay-clause-sublist
+returns-in_err-replay-clause-sublist g c = IfOk-from_err c.from_residual-in_err-replay.result _ c.from_residual-in_err-replay.ensures.0
+
+pub returns-in_err-is_there-clause-there : goal.returns-in_err-is_there-clause-there
+returns-in_err-is_there-clause-there g c = λ _. IfOk-from_err c.from_residual-in_err-is_there.result _ c.from_residual-in_err-is_there.ensures.0
+
+pub returns-in_err-is_there-clause-replays : goal.returns-in_err-is_there-clause-replays
+returns-in_err-is_there-clause-replays g c = IfOk-from_err c.from_residual-in_err-is_there.result _ c.from_residual-in_err-is_there.ensures.0
+
+pub returns-in_err-is_there-clause-moves : goal.returns-in_err-is_there-clause-moves
+returns-in_err-is_there-clause-moves g c = IfOk-from_err c.from_residual-in_err-is_there.result _ c.from_residual-in_err-is_there.ensures.0
+
+pub returns-in_err-is_there-clause-sublist : goal.returns-in_err-is_there-clause-sublist
+returns-in_err-is_there-clause-sublist g c = IfOk-from_err c.from_residual-in_err-is_there.result _ c.from_residual-in_err-is_there.ensures.0
+
+pub returns-in_err-shortened-clause-there : goal.returns-in_err-shortened-clause-there
+returns-in_err-shortened-clause-there g c = λ _. IfOk-from_err c.from_residual-in_err-shortened.result _ c.from_residual-in_err-shortened.ensures.0
+
+pub returns-in_err-shortened-clause-replays : goal.returns-in_err-shortened-clause-replays
+returns-in_err-shortened-clause-replays g c = IfOk-from_err c.from_residual-in_err-shortened.result _ c.from_residual-in_err-shortened.ensures.0
+
+pub returns-in_err-shortened-clause-moves : goal.returns-in_err-shortened-clause-moves
+returns-in_err-shortened-clause-moves g c = IfOk-from_err c.from_residual-in_err-shortened.result _ c.from_residual-in_err-shortened.ensures.0
+
+pub returns-in_err-shortened-clause-sublist : goal.returns-in_err-shortened-clause-sublist
+returns-in_err-shortened-clause-sublist g c = IfOk-from_err c.from_residual-in_err-shortened.result _ c.from_residual-in_err-shortened.ensures.0
