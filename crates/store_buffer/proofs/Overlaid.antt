@@ -1,13 +1,12 @@
 -- What entries laid over one another show of a word.
-use Rattle.std.proofs.Common.{◌≡◌, ◌≢◌, ℕ, zero, suc, ◌<◌, Bool, true, false, cond, ◌||◌, List, [], ◌∷◌, ◌++◌, Option, Some, None, refl, sym, ap, ◌∙◌}
-use Rattle.std.specs.Prelude.{◌==◌, is_some, unwrap_or, slice_index}
-use Rattle.std.specs.List.{AllByRecursion as Each}
+use Rattle.std.proofs.Common.{◌≡◌, ◌≢◌, ℕ, Bool, true, false, cond, ◌||◌, List, [], ◌∷◌, ◌++◌, Option, Some, None, refl, sym, ap, ◌∙◌}
+use Rattle.std.specs.Prelude.{is_some, unwrap_or, slice_index}
 use Rattle.std.proofs.lemmas.Bool.{eq-eqb, ne_eqb}
 use Rattle.std.specs.Option.{option_or}
 use Rattle.store_buffer.specs.declared.entry.Entry.{Entry}
 use Rattle.store_buffer.specs.ByteMask.{each_place, is_marked, united, laid_over}
 use Rattle.store_buffer.specs.Entry.{marked_byte}
-use Rattle.store_buffer.specs.Groups.{HaveDistinctWords, buffered_byte, forwarded}
+use Rattle.store_buffer.specs.Groups.{buffered_byte, forwarded}
 use Rattle.store_buffer.specs.Layout.{sealed_in, groups_in, AreGroupsLaidOut, byte_in, newest_byte, overlaid}
 use Rattle.store_buffer.proofs.Layouts.{newest_byte-append, buffered_byte-groups_in}
 

@@ -1,5 +1,5 @@
 -- Entries as a function of their group's stores.
-use Rattle.std.proofs.Common.{◌≡◌, ◌≢◌, ℕ, zero, suc, ◌+◌, ◌<◌, ◌≤◌, Bool, true, false, cond, ◌&&◌, ◌||◌, not, List, [], ◌∷◌, ◌++◌, length, Option, Some, None, refl, sym, ap, subst, ◌∙◌, arith, append_assoc, append-nil, length-append, map, filter}
+use Rattle.std.proofs.Common.{◌≡◌, ◌≢◌, ℕ, zero, suc, ◌<◌, ◌≤◌, Bool, true, false, cond, ◌&&◌, ◌||◌, not, List, [], ◌∷◌, ◌++◌, length, Some, None, refl, sym, ap, ◌∙◌, arith, append_assoc, append-nil, length-append, map, filter}
 use Rattle.std.proofs.lemmas.List.{map-append}
 use Rattle.std.specs.Prelude.{◌==◌, slice_index}
 use Rattle.std.specs.List.{list_any}
@@ -9,8 +9,8 @@ use Rattle.store_buffer.specs.declared.entry.Entry.{Entry}
 use Rattle.store_buffer.specs.declared.entry.Store.{Store}
 use Rattle.store_buffer.specs.ByteMask.{is_marked}
 use Rattle.store_buffer.specs.Entry.{blank_entry, joined, marked_byte, has_word, entry_of, with_store, without}
-use Rattle.store_buffer.specs.Groups.{Groups, HaveDistinctWords, is_nil, is_empty, has_sealed, any_has_word, has, drainable, kept, oldest, after_put_single, buffered_byte, after_put, after_seal, after_take}
-use Rattle.store_buffer.specs.Stores.{is_to_word, is_elsewhere, merged, entries_from, entries_of, stored_byte, last_byte, OwnWord, OtherWord, PutAppends, EntryIsFilter, OpsAreFilter, ByteIsLast, HasIsAny, TakeFilters, AlwaysDistinct, WaitingStores, entries_in, all_stores, kept_stores, oldest_stores_from, drained_from, put_behind, sealed_up, oldest_stores, PutIsBehind, PutSingleIsBehind, SealIsUp, OldestIsFirst, TakeIsDrained, ForwardIsLast, HasIsAnyOfAll, DrainableIsAny, EmptyIsNone, SealedIsSome}
+use Rattle.store_buffer.specs.Groups.{HaveDistinctWords, is_nil, any_has_word, kept, oldest, after_put_single, buffered_byte, after_put, after_take}
+use Rattle.store_buffer.specs.Stores.{is_to_word, is_elsewhere, merged, entries_from, entries_of, stored_byte, last_byte, OwnWord, OtherWord, PutAppends, EntryIsFilter, OpsAreFilter, ByteIsLast, HasIsAny, TakeFilters, AlwaysDistinct, entries_in, all_stores, kept_stores, oldest_stores_from, drained_from, put_behind, sealed_up, oldest_stores, PutIsBehind, PutSingleIsBehind, SealIsUp, OldestIsFirst, TakeIsDrained, ForwardIsLast, HasIsAnyOfAll, DrainableIsAny, EmptyIsNone, SealedIsSome}
 use Rattle.store_buffer.proofs.Places.{with_store-new, with_store-old, has_word-with_store, HaveDistinctWords-with_store}
 use Rattle.store_buffer.proofs.Layouts.{or_else-assoc, or_none, nonempty, kept_some, same_groups, put_joins_own, put_after_seal}
 

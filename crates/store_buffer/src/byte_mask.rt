@@ -61,7 +61,7 @@ impl ByteMask {
         let [a, b, c, d] = self.marks;
         let [e, f, g, h] = other.marks;
         ByteMask {
-            marks: [a || e, b || f, c || g, d || h],
+            marks: [a | e, b | f, c | g, d | h],
         }
     }
 
@@ -71,7 +71,7 @@ impl ByteMask {
     {
         let [a, b, c, d] = self.marks;
         let [e, f, g, h] = needed.marks;
-        (!e || a) && (!f || b) && (!g || c) && (!h || d)
+        (!e | a) & (!f | b) & (!g | c) & (!h | d)
     }
 
     /// The marked bytes of `upper`, and the others of `lower`.

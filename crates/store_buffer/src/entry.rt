@@ -66,7 +66,7 @@ impl Entry {
         ensures err { OnErr result (self.new ≡ self.old) }
     {
         self.ops.push(store.op)?;
-        self.mask = self.mask.union(store.mask);
+        self.mask = store.mask.union(self.mask);
         self.bytes = store.mask.lay_over(store.value, self.bytes);
         Ok(())
     }

@@ -3,7 +3,7 @@ use Rattle.std.specs.Prelude.{◌==◌, nat_lt}
 use Rattle.std.proofs.lemmas.Bool.Decides.{nat_tests}
 use Rattle.machine_types.specs.declared.limits.TheConstants.{BUFFER_ENTRIES}
 use Rattle.store_buffer.specs.Entry.{has_word}
-use Rattle.store_buffer.specs.Groups.{entry_count, fits}
+use Rattle.store_buffer.specs.Groups.{entry_count}
 use Rattle.store_buffer.proofs.Layouts.{entry_count-groups_in}
 use Rattle.store_buffer.proofs.buffer.StoreBuffer.fits.Goals as goal
 

@@ -1,8 +1,8 @@
-use Rattle.std.proofs.Common.{◌≡◌, ℕ, ◌+◌, ◌-◌, ◌<◌, ◌≤◌, [], length, get_or, take, drop, sym, ap, ◌∙◌, arith}
+use Rattle.std.proofs.Common.{◌≡◌, ◌+◌, ◌-◌, ◌<◌, ◌≤◌, [], length, get_or, take, drop, sym, ap, ◌∙◌, arith}
 use Rattle.std.specs.Prelude.{sum}
 use Rattle.std.proofs.lemmas.List.{length-take-le, take_all, take_rest}
 use Rattle.store_buffer.specs.Groups.{Groups, groups_of}
-use Rattle.store_buffer.proofs.Layouts.{length-groups_of, group_sealed, group_current}
+use Rattle.store_buffer.proofs.Layouts.{length-groups_of, group_sealed, group_current, sum-take-at, sum-take-le}
 use Rattle.store_buffer.proofs.buffer.StoreBuffer.group.Goals as goal
 
 pub slice_bounds-total-end : goal.slice_bounds-total-end
@@ -40,3 +40,28 @@ returns-else-index-len c =
     ∙ sym (group_current b.sealed.items b.entries.items (drop (sum b.sealed.items) b.entries.items))
     ∙ ap (λ (g : Groups). get_or (groups_of g) (length b.sealed.items) []) c.self.view_is
     ∙ ap (λ k. get_or (groups_of c.args.self.now) k []) (sym last)
+
+pub total-start-requires : goal.total-start-requires
+total-start-requires c =
+    let ns = c.self.inside.sealed.items in
+    omega (arith, ap (λ xs. sum (take c.args.index xs)) c.deref.ensures.0, sum-take-le ns c.args.index)
+
+pub overflow_add-result : goal.overflow_add-result
+overflow_add-result c =
+    let ns = c.self.inside.sealed.items in
+    let i = c.args.index in
+    let below : i < length ns = let t = c.if-index-len.true in omega (arith, c.len.ensures.value) in
+    omega (arith, c.total-start.ensures, ap (λ xs. sum (take i xs)) c.deref.ensures.0, ap (λ xs. get_or xs i 0) c.deref-then-index-len-2.ensures.0, sum-take-at ns i below)
+
+pub slice_bounds-result-end : goal.slice_bounds-result-end
+slice_bounds-result-end c =
+    let ns = c.self.inside.sealed.items in
+    let i = c.args.index in
+    let below : i < length ns = let t = c.if-index-len.true in omega (arith, c.len.ensures.value) in
+    omega (arith, c.total-start.ensures, ap (λ xs. sum (take i xs)) c.deref.ensures.0, ap (λ xs. get_or xs i 0) c.deref-then-index-len-2.ensures.0, ap length c.deref-then-index-len.ensures.0, sum-take-at ns i below)
+
+pub slice_bounds-result-count-else-index-len : goal.slice_bounds-result-count-else-index-len
+slice_bounds-result-count-else-index-len c =
+    let ns = c.self.inside.sealed.items in
+    let i = c.args.index in
+    omega (arith, c.total-start.ensures, ap (λ xs. sum (take i xs)) c.deref.ensures.0, ap length c.deref-else-index-len.ensures.0, sum-take-le ns i)

@@ -1,4 +1,4 @@
-use Rattle.std.proofs.Common.{◌≡◌, ◌+◌, length, sym, ap, ◌∙◌}
+use Rattle.std.proofs.Common.{◌+◌, length, sym, ap, ◌∙◌}
 use Rattle.store_buffer.specs.Groups.{Groups, groups_of}
 use Rattle.store_buffer.proofs.Layouts.{length-groups_of}
 use Rattle.store_buffer.proofs.buffer.StoreBuffer.group_count.Goals as goal

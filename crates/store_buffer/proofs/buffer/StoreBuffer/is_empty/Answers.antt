@@ -1,4 +1,4 @@
-use Rattle.std.proofs.Common.{ap, sym, ◌∙◌}
+use Rattle.std.proofs.Common.{ap, ◌∙◌}
 use Rattle.store_buffer.specs.Groups.{is_empty}
 use Rattle.store_buffer.proofs.Layouts.{is_empty-groups_in}
 use Rattle.store_buffer.proofs.buffer.StoreBuffer.is_empty.Goals as goal

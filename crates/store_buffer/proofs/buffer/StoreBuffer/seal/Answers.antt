@@ -1,4 +1,4 @@
-use Rattle.std.proofs.Common.{◌≡◌, ℕ, ◌-◌, ◌<◌, length, ap, ◌∙◌, subst, sym, arith, lit<}
+use Rattle.std.proofs.Common.{◌≡◌, ◌-◌, ap, ◌∙◌, subst, sym, arith, lit<}
 use Rattle.std.specs.Prelude.{sum}
 use Rattle.store_buffer.specs.Groups.{after_seal}
 use Rattle.store_buffer.specs.Layout.{groups_in, AreGroupsLaidOut}
