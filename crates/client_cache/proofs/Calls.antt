@@ -8,7 +8,7 @@ use Rattle.machine_types.specs.declared.permission.Perm.TheVariants.{Nothing}
 use Rattle.machine_types.specs.Shrink.{shrunk_by}
 use Rattle.client_cache.specs.declared.held.Held.{Held}
 use Rattle.client_cache.specs.declared.answers.Evict.TheVariants.{NotHeld, AcquirePending, ReleaseFull}
-use Rattle.client_cache.specs.declared.answers.Probed.TheVariants.{Answered}
+use Rattle.client_cache.specs.declared.answers.Probed.TheVariants.{Answered, Releasing}
 use Rattle.client_cache.specs.Held.{eviction_of, answer_of, shrunk_copy}
 use Rattle.client_cache.specs.Cache.{Cache, copy_at, put, evicted, probed}
 
@@ -31,3 +31,6 @@ probed_none c line cap l is = rw (l, is) refl
 pub probed_held : (c : Cache) (line : ℕ) (cap : Cap) (h : Held) → fset.contains c.releasing line ≡ false → copy_at c line ≡ Some h
     → probed c line cap ≡ (answer_of cap h, record c { copies = put c.copies line (shrunk_copy cap h) })
 probed_held c line cap h l is = rw (l, is) refl
+
+pub probed_releasing : (c : Cache) (line : ℕ) (cap : Cap) → fset.contains c.releasing line ≡ true → probed c line cap ≡ (Releasing, c)
+probed_releasing c line cap l = rw l refl

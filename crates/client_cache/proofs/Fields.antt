@@ -17,7 +17,7 @@ use Rattle.client_cache.specs.Cache.{Cache, put, copy_at, lines_in_set, is_set_f
 use Rattle.client_cache.specs.Array.{IsLaidOut, IsRoom, IsFull, slots_of_set, copies_of, copy_in, acquiring_in, place_of}
 use Rattle.client_cache.proofs.Copies.{get-copies_of, length-row, IsWrite, after_write, IsPlaced-write, copies_of-write, put-same}
 use Rattle.client_cache.proofs.Counts.{used_place, len-lines_in_set, length-all_used, length-free}
-use Rattle.client_cache.proofs.Rooms.{write_found, write_room, tells_same, tells_insert}
+use Rattle.client_cache.proofs.Rooms.{write_found, write_room, tells_same, tells_insert, room_found}
 
 abbrev pub seen : Inside → Cache
 seen s = record { shape = s.array.shape; copies = copies_of s.array.shape s.array.slots.items; acquiring = s.acquiring; releasing = s.releasing }
@@ -39,6 +39,12 @@ copy_at-found s h x e line way p at = copy_at-seen s h x e line ∙ ap copy_in a
 
 pub acquiring-found : (s : Inside) → IsOrdered s → (x : Cache) → seen s ≡ x → (line way : ℕ) (p : Place) → IsFound s line way p → fset.contains x.acquiring line ≡ p.acquiring
 acquiring-found s h x e line way p at = ap (λ (y : Cache). fset.contains y.acquiring line) (sym e) ∙ h.tracked line ∙ ap acquiring_in at.first
+
+-- the place that was found is one of the set's
+pub way-found : (s : Inside) → IsOrdered s → (line way : ℕ) (p : Place) → IsFound s line way p → way < s.array.shape.ways
+way-found s h line way p at =
+    let low = h.sets_low in
+    (room_found s.array.shape s.array.slots.items line way p low h.room (h.rows (set_of s.array.shape line) (omega arith)) at).within
 
 -- after one place was written
 pub record IsRewritten (s : Inside) (a : Array) (later : FinSet nat_cmp) (line : ℕ) (copy : Option Held) : Type 0 where

@@ -8,7 +8,7 @@ use std::sync::ledger::Ledger;
 
 /// What a slot has: a line, its copy, and whether an Acquire of it is outstanding. With neither the
 /// slot is free, whatever its line.
-#[derive(Clone, Copy, Debug)]
+#[derive(Clone, Copy)]
 pub struct Place {
     pub line: u32,
     pub copy: Option<Held>,
@@ -30,7 +30,7 @@ impl Place {
 }
 
 /// A place that is read by `look` alone.
-#[derive(Clone, Copy, Debug)]
+#[derive(Clone, Copy)]
 pub struct Slot {
     place: Place,
 }

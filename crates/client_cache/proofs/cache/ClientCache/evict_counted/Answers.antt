@@ -1,4 +1,4 @@
-use Rattle.std.proofs.lemmas.Grind.{common_steps}
+use Rattle.std.proofs.lemmas.Bool.{leb-false}
 use Rattle.std.proofs.Common.{None, sym, ap, ◌∙◌, false, nat_le, arith}
 use Rattle.std.specs.FinSet.{insert, len}
 use Rattle.machine_types.specs.declared.limits.TheConstants.{TRACKERS}
@@ -7,7 +7,7 @@ use Rattle.client_cache.specs.Array.{copy_in}
 use Rattle.client_cache.specs.Held.{eviction_of}
 use Rattle.client_cache.specs.Cache.{Cache, put}
 use Rattle.client_cache.proofs.Calls.{evicted_none, evicted_pending, evicted_full, evicted_held}
-use Rattle.client_cache.proofs.Fields.{copy_at-seen, copy_at-found, acquiring-found, rewritten-copy}
+use Rattle.client_cache.proofs.Fields.{copy_at-seen, copy_at-found, acquiring-found, rewritten-copy, way-found}
 use Rattle.client_cache.proofs.cache.ClientCache.evict_counted.Goals as goal
 
 abbrev pair : Evict → Cache → Evict × Cache
@@ -54,4 +54,22 @@ returns-clause-meaning g c =
     ∙ sym (evicted_held c.args.self.now c.args.line held (copy ∙ c.in-Some-copy.is) (mark ∙ c.if-place.false) room))
 
 pub put-requires : goal.put-requires
-put-requires g c = grind (arith, common_steps)
+put-requires g c = way-found c.self.inside c.self.invariant c.args.line c.in-Some.way c.in-Some.place c.in-Some.ensures.found
+
+pub returns-clause-looks : goal.returns-clause-looks
+returns-clause-looks g c = omega (arith, c.find.ensures.looks, ap (λ (x : Cache). x.shape.ways) c.self.view_is)
+
+pub returns-in_default-clause-looks : goal.returns-in_default-clause-looks
+returns-in_default-clause-looks g c = omega (arith, c.find.ensures.looks, ap (λ (x : Cache). x.shape.ways) c.self.view_is)
+
+pub returns-in_default-copy-clause-looks : goal.returns-in_default-copy-clause-looks
+returns-in_default-copy-clause-looks g c = omega (arith, c.find.ensures.looks, ap (λ (x : Cache). x.shape.ways) c.self.view_is)
+
+pub returns-then-place-clause-looks : goal.returns-then-place-clause-looks
+returns-then-place-clause-looks g c = omega (arith, c.find.ensures.looks, ap (λ (x : Cache). x.shape.ways) c.self.view_is)
+
+pub returns-then-is_full-clause-looks : goal.returns-then-is_full-clause-looks
+returns-then-is_full-clause-looks g c = omega (arith, c.find.ensures.looks, ap (λ (x : Cache). x.shape.ways) c.self.view_is)
+
+pub insert-requires : goal.insert-requires
+insert-requires g c = leb-false TRACKERS (len c.self.inside.releasing) (sym c.is_full.ensures.full ∙ c.if-is_full.false)

@@ -1,11 +1,10 @@
-use Rattle.std.proofs.lemmas.Grind.{common_steps}
 use Rattle.std.proofs.Common.{◌≡◌, Option, sym, ap, ◌∙◌, refl, false, arith}
 use Rattle.std.specs.FinSet.{remove}
 use Rattle.client_cache.specs.declared.held.Held.{Held}
 use Rattle.client_cache.specs.Held.{granted_copy}
 use Rattle.client_cache.specs.Cache.{Cache, copy_at, put}
 use Rattle.client_cache.proofs.Rooms.{tells_remove}
-use Rattle.client_cache.proofs.Fields.{copy_at-found, rewritten-found}
+use Rattle.client_cache.proofs.Fields.{copy_at-found, rewritten-found, way-found}
 use Rattle.client_cache.proofs.cache.ClientCache.on_grant_counted.Goals as goal
 
 pub invariant_of-self : goal.invariant_of-self
@@ -26,4 +25,7 @@ returns-clause-meaning g c =
     ∙ ap (λ (o : Option Held). record c.args.self.now { copies = put c.args.self.now.copies c.args.line o; acquiring = remove c.args.self.now.acquiring c.args.line }) copy)
 
 pub put-requires : goal.put-requires
-put-requires g c = grind (arith, common_steps)
+put-requires g c = way-found c.self.inside c.self.invariant c.args.line c.in-Some.way c.in-Some.place c.in-Some.ensures.found
+
+pub returns-clause-looks : goal.returns-clause-looks
+returns-clause-looks g c = omega (arith, c.find.ensures.looks, ap (λ (x : Cache). x.shape.ways) c.self.view_is)

@@ -1,12 +1,11 @@
-use Rattle.std.proofs.lemmas.Grind.{common_steps}
 use Rattle.std.proofs.Common.{sym, ap, ◌∙◌, refl, arith}
 use Rattle.std.specs.FinSet.{contains}
 use Rattle.client_cache.specs.declared.answers.Probed.{Probed}
 use Rattle.client_cache.specs.Array.{copy_in}
 use Rattle.client_cache.specs.Held.{answer_of}
 use Rattle.client_cache.specs.Cache.{Cache, put}
-use Rattle.client_cache.proofs.Calls.{probed_none, probed_held}
-use Rattle.client_cache.proofs.Fields.{copy_at-seen, copy_at-found, rewritten-copy}
+use Rattle.client_cache.proofs.Calls.{probed_none, probed_held, probed_releasing}
+use Rattle.client_cache.proofs.Fields.{copy_at-seen, copy_at-found, rewritten-copy, way-found}
 use Rattle.client_cache.proofs.cache.ClientCache.on_probe_counted.Goals as goal
 
 abbrev pair : Probed → Cache → Probed × Cache
@@ -42,4 +41,18 @@ returns-clause-meaning g c =
     ∙ sym (probed_held c.args.self.now c.args.line c.args.cap held released (copy ∙ c.in-Some-copy.is)))
 
 pub put-requires : goal.put-requires
-put-requires g c = grind (arith, common_steps)
+put-requires g c = way-found c.self.inside c.self.invariant c.args.line c.in-Some.way c.in-Some.before c.in-Some.ensures.found
+
+pub returns-clause-looks : goal.returns-clause-looks
+returns-clause-looks g c = omega (arith, c.find.ensures.looks, ap (λ (x : Cache). x.shape.ways) c.self.view_is)
+
+pub returns-in_default-clause-looks : goal.returns-in_default-clause-looks
+returns-in_default-clause-looks g c = omega (arith, c.find.ensures.looks, ap (λ (x : Cache). x.shape.ways) c.self.view_is)
+
+pub returns-in_default-copy-clause-looks : goal.returns-in_default-copy-clause-looks
+returns-in_default-copy-clause-looks g c = omega (arith, c.find.ensures.looks, ap (λ (x : Cache). x.shape.ways) c.self.view_is)
+
+pub returns-then-contains-clause-meaning : goal.returns-then-contains-clause-meaning
+returns-then-contains-clause-meaning g c =
+    let released = ap (λ (x : Cache). contains x.releasing c.args.line) (sym c.self.view_is) ∙ sym c.contains.ensures ∙ c.if-contains.true in
+    sym (probed_releasing c.args.self.now c.args.line c.args.cap released)

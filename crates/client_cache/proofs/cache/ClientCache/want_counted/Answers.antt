@@ -1,5 +1,7 @@
-use Rattle.std.proofs.Common.{sym, ap, ◌∙◌}
-use Rattle.std.specs.FinSet.{insert}
+use Rattle.machine_types.specs.declared.limits.TheConstants.{TRACKERS}
+use Rattle.client_cache.specs.Shape.{set_of}
+use Rattle.std.proofs.Common.{sym, ap, ◌∙◌, arith, subst, ◌<◌}
+use Rattle.std.specs.FinSet.{insert, len}
 use Rattle.client_cache.specs.declared.answers.Want.{Want}
 use Rattle.client_cache.specs.declared.answers.Want.TheVariants.{Missed}
 use Rattle.client_cache.specs.Cache.{Cache}
@@ -30,3 +32,23 @@ returns-clause-meaning g c =
     ∙ (λ i. record { shape = s.array.shape; copies = kept i; acquiring = insert s.acquiring c.args.line; releasing = s.releasing })
     ∙ ap (λ (x : Cache). record x { acquiring = insert x.acquiring c.args.line }) c.self.view_is)
     ∙ sym (wanted-room s c.self.invariant c.args.self.now c.self.view_is c.args.line c.args.grow c.in_default.ensures.released c.in_default.ensures.granted c.in_default.ensures.tracker c.in-Some-room_for.way c.in-Some-room_for.copy room))
+
+pub returns-clause-looks : goal.returns-clause-looks
+returns-clause-looks g c = omega (arith, c.room_for.ensures.looks, ap (λ (x : Cache). x.shape.ways) c.self.view_is)
+
+pub returns-in_default-room_for-clause-looks : goal.returns-in_default-room_for-clause-looks
+returns-in_default-room_for-clause-looks g c = omega (arith, c.room_for.ensures.looks, ap (λ (x : Cache). x.shape.ways) c.self.view_is)
+
+pub returns-in-Some-clause-meaning : goal.returns-in-Some-clause-meaning
+returns-in-Some-clause-meaning g c = sym (c.in-Some.ensures.stalls c.args.grow)
+
+pub room_for-requires : goal.room_for-requires
+room_for-requires g c =
+    let low = c.self.invariant.sets_low in
+    c.self.invariant.rows (set_of c.self.inside.array.shape c.args.line) (omega arith)
+
+pub put-requires : goal.put-requires
+put-requires g c = c.in-Some-room_for.ensures.room.within
+
+pub insert-requires : goal.insert-requires
+insert-requires g c = subst (λ (x : Cache). len x.acquiring < TRACKERS) (sym c.self.view_is) c.in_default.ensures.tracker

@@ -1,11 +1,10 @@
-use Rattle.std.proofs.lemmas.Grind.{common_steps}
 use Rattle.std.proofs.Common.{◌≡◌, true, Some, None, sym, ap, ◌∙◌, refl, arith}
 use Rattle.machine_types.specs.declared.permission.Perm.TheVariants.{Nothing, Trunk as TrunkPerm}
 use Rattle.client_cache.specs.declared.held.Held.TheVariants.{Trunk}
 use Rattle.client_cache.specs.Held.{perm_of}
 use Rattle.client_cache.specs.Array.{copy_in}
 use Rattle.client_cache.specs.Cache.{Cache, copy_at, written}
-use Rattle.client_cache.proofs.Fields.{copy_at-seen, rewritten-copy}
+use Rattle.client_cache.proofs.Fields.{copy_at-seen, rewritten-copy, way-found}
 use Rattle.client_cache.proofs.cache.ClientCache.write_counted.Goals as goal
 
 pub unreachable-requires : goal.unreachable-requires
@@ -25,4 +24,7 @@ returns-clause-meaning g c =
     done.seen_as c.self.inside.releasing ∙ ap (λ (x : Cache). written x c.args.line c.args.bytes) c.self.view_is
 
 pub put-requires : goal.put-requires
-put-requires g c = grind (arith, common_steps)
+put-requires g c = way-found c.self.inside c.self.invariant c.args.line c.in-Some.way c.in-Some.place c.in-Some.ensures.found
+
+pub returns-clause-looks : goal.returns-clause-looks
+returns-clause-looks g c = omega (arith, c.find.ensures.looks, ap (λ (x : Cache). x.shape.ways) c.self.view_is)
