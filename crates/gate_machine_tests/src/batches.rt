@@ -1,6 +1,6 @@
 //! Batches that a machine adopts, and the limit on a hart's list, worked by hand.
 use crate::answers::{Answer, adopted, applied};
-use crate::programs::image_of;
+use crate::images::image_of;
 use crate::same::{same, same_of};
 use coherent_machine::{AdoptError, ApplyError, Machine};
 use hart::{Batch, run_local};

@@ -4,7 +4,7 @@
 ghost use Rattle.std.specs.Prelude.{◌≡◌, ◌<◌, IfOk, length};
 
 use crate::answers::{Answer, adopted, applied};
-use crate::programs::image_of;
+use crate::images::image_of;
 use crate::same::{same, same_of};
 use coherent_machine::{AdoptError, ApplyError, Machine, Views};
 use elf_loader::Image;

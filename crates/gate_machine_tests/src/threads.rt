@@ -1,6 +1,6 @@
 //! Runs with threads: worked rows, and how a run ends.
 
-use crate::programs::image_of;
+use crate::images::image_of;
 use crate::same::same;
 use coherent_machine::{Views, replay};
 use hart::{Status, Trace};

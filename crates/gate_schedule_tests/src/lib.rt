@@ -1,0 +1,16 @@
+//! Tests of schedules, and of what small programs come to on the flat machine, apart from both, so that neither is proved a
+//! second time for its tests.
+#![tactic(auto)]
+
+#[cfg(test)]
+mod draining;
+#[cfg(test)]
+mod exploring;
+#[cfg(test)]
+mod programs;
+#[cfg(test)]
+mod realising;
+#[cfg(test)]
+mod same;
+#[cfg(test)]
+mod shortening;
