@@ -81,6 +81,8 @@ def without_ghosts(text):
             at = end_of_braces(text, at + clause.end() - 1)
             continue
         if word[0] == "ghost":
+            if out[-2:] == ["pub", " "]:
+                del out[-2:]
             at = end_of_ghost(text, at)
             continue
         out.append(word[0])
