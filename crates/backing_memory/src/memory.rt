@@ -9,7 +9,7 @@ use std::alloc::{AllocError, Global};
 use std::marker::Model;
 
 /// All lines of one size, so that a line costs its bytes alone.
-#[derive(Debug, Drop)]
+#[derive(Drop)]
 enum Lines {
     Bytes16(Vec<[u8; 16]>),
     Bytes64(Vec<[u8; 64]>),
@@ -17,7 +17,7 @@ enum Lines {
 
 /// The lines of main memory, numbered from 0: line `i` begins at 0x80000000 and `i` times the
 /// line's length.
-#[derive(Debug, Drop)]
+#[derive(Drop)]
 pub struct Memory {
     lines: Lines,
 }

@@ -5,7 +5,7 @@ ghost use Rattle.client_cache.specs.Shape.{set_of};
 use machine_types::LineSize;
 
 /// Sets by ways, and the size of the lines.
-#[derive(Clone, Copy, Debug, PartialEq, Eq)]
+#[derive(Clone, Copy, PartialEq, Eq)]
 pub struct Shape {
     pub sets: u32,
     pub ways: u32,

@@ -11,7 +11,7 @@ use std::alloc::{AllocError, Global};
 use std::marker::Model;
 
 /// The bytes of main memory at reset, from 0x80000000 on, and the address of the first instruction.
-#[derive(Debug, Drop)]
+#[derive(Drop)]
 pub struct Image {
     bytes: Vec<u8>,
     entry: u32,

@@ -17,7 +17,7 @@ const PT_LOAD: u32 = 1;
 
 /// An entry of the program header table: `p_filesz` bytes of the file from `p_offset` stand at the
 /// address `p_vaddr`, and zeros behind them up to `p_memsz` bytes.
-#[derive(Clone, Copy, Debug, Default)]
+#[derive(Clone, Copy, Default)]
 pub struct ProgramHeader {
     pub p_type: u32,
     pub p_offset: u32,

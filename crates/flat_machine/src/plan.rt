@@ -9,7 +9,7 @@ use machine_types::Outcome;
 use rv32_decode::Instr;
 
 /// What an event of the flat machine comes to, before anything changes.
-#[derive(Clone, Copy, Debug, PartialEq, Eq)]
+#[derive(Clone, Copy)]
 pub enum Plan {
     /// There is no such event.
     Refused,

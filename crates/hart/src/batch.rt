@@ -16,7 +16,7 @@ use std::marker::Model;
 
 /// At most [`MAX_ROW`](machine_types::MAX_ROW) retired instructions, none of which touches memory, fences or calls, with the hart that
 /// they start from and the one that they lead to.
-#[derive(Debug, Drop)]
+#[derive(Drop)]
 pub struct Batch {
     first: Hart,
     last: Hart,

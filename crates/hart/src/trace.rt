@@ -17,7 +17,7 @@ use std::marker::Model;
 /// What is kept of a run: its image, its line size, and by hart the retired instructions and the status,
 /// then the performed operations and the messages in the order in which they came. It has at most `MAX_HARTS`
 /// harts, each with at most `MAX_ENTRIES` retired instructions.
-#[derive(Debug, Drop)]
+#[derive(Drop)]
 pub struct Trace {
     image: Image,
     line: LineSize,

@@ -6,7 +6,7 @@ use rv32_decode::Instr;
 use store_buffer::Store;
 
 /// What an event comes to, before anything changes.
-#[derive(Clone, Copy, Debug, PartialEq, Eq)]
+#[derive(Clone, Copy)]
 pub enum Plan {
     /// Nothing changes; the outcome says why.
     Stays(Outcome),
@@ -14,7 +14,7 @@ pub enum Plan {
 }
 
 /// A change of the machine, by the hart that the event names.
-#[derive(Clone, Copy, Debug, PartialEq, Eq)]
+#[derive(Clone, Copy)]
 pub enum Act {
     /// The hart halts with this code; nothing retires.
     Stop(u8),
@@ -41,7 +41,7 @@ pub enum Act {
 }
 
 /// What an instruction that retires does beside its hart's pc, registers and status.
-#[derive(Clone, Copy, Debug, PartialEq, Eq)]
+#[derive(Clone, Copy)]
 pub enum Deed {
     /// Nothing.
     Private,

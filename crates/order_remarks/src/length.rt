@@ -6,7 +6,7 @@ use std::fmt::{self, Display, Formatter};
 use trace_operations::MAX_OPERATIONS;
 
 /// How many memory operations a trace has that was refused as too long, and how many are judged.
-#[derive(Clone, Copy, Debug)]
+#[derive(Clone, Copy)]
 pub struct LengthRemark<'a>(pub &'a Trace);
 
 impl Display for LengthRemark<'_> {

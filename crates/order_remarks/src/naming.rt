@@ -6,7 +6,7 @@ use std::fmt::{self, Display, Formatter};
 
 /// Which P line of a trace that was refused as no order is the first that names no memory operation, or one
 /// that an earlier line has named. The lines are counted from 1.
-#[derive(Clone, Copy, Debug)]
+#[derive(Clone, Copy)]
 pub struct NamingRemark<'a>(pub &'a Trace);
 
 impl Display for NamingRemark<'_> {

@@ -13,7 +13,7 @@ use trace_operations::accesses::name_of;
 
 /// What the order of a trace breaks by a code, with the two operations that show it as HART:PLACE and as an
 /// assembler writes them.
-#[derive(Clone, Copy, Debug)]
+#[derive(Clone, Copy)]
 pub struct OrderRemark<'a> {
     pub trace: &'a Trace,
     pub code: Code,
@@ -46,7 +46,7 @@ impl Display for OrderRemark<'_> {
 }
 
 /// An operation of a trace that overtakes another, and what would forbid that.
-#[derive(Clone, Copy, Debug)]
+#[derive(Clone, Copy)]
 pub struct OvertakingRemark<'a> {
     pub trace: &'a Trace,
     pub overtaking: Overtaking,

@@ -12,7 +12,7 @@ use trace_operations::Index;
 use trace_operations::accesses::{overlap, precedes};
 
 /// Two operations of a hart without a common byte, of which the second is performed before the first, which precedes it.
-#[derive(Clone, Copy, Debug, PartialEq, Eq)]
+#[derive(Clone, Copy, PartialEq, Eq)]
 pub struct Overtaking {
     pub first: Operation,
     pub second: Operation,

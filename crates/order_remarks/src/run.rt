@@ -7,7 +7,7 @@ use std::fmt::{self, Display, Formatter};
 
 /// Which hart of a trace that was refused as no run is the first that does not run its image, at which of
 /// its R lines, counted from 0, and what is wrong there.
-#[derive(Clone, Copy, Debug)]
+#[derive(Clone, Copy)]
 pub struct RunRemark<'a>(pub &'a Trace);
 
 impl Display for RunRemark<'_> {

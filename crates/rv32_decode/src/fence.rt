@@ -5,7 +5,7 @@ use bitflags::{Flag, Flags, bitflag_items};
 use std::marker::Model;
 
 /// Which accesses a FENCE speaks of: device input (I) and output (O), memory reads (R) and writes (W).
-#[derive(Clone, Copy, Debug, PartialEq, Eq)]
+#[derive(Clone, Copy, PartialEq, Eq)]
 pub struct FenceSet(u8);
 
 bitflag_items! {
@@ -59,7 +59,7 @@ impl FenceSet {
 }
 
 /// The sets before and after a FENCE, of the bits I, O, R and W alone.
-#[derive(Clone, Copy, Debug, PartialEq, Eq)]
+#[derive(Clone, Copy, PartialEq, Eq)]
 pub struct FenceSets {
     before: FenceSet,
     after: FenceSet,

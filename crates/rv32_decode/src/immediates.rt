@@ -6,31 +6,31 @@ ghost use Rattle.rv32_decode.specs.Ranges.{IsSigned, IsMultiple};
 use std::marker::Model;
 
 /// The immediate of the formats I and S: 12 bits, from -2048 to 2047.
-#[derive(Clone, Copy, Debug, PartialEq, Eq)]
+#[derive(Clone, Copy, PartialEq, Eq)]
 pub struct Immediate12 {
     value: u32,
 }
 
 /// How far a branch jumps: 13 bits, an even number from -4096 to 4094.
-#[derive(Clone, Copy, Debug, PartialEq, Eq)]
+#[derive(Clone, Copy, PartialEq, Eq)]
 pub struct BranchOffset {
     value: u32,
 }
 
 /// How far a JAL jumps: 21 bits, an even number from -1048576 to 1048574.
-#[derive(Clone, Copy, Debug, PartialEq, Eq)]
+#[derive(Clone, Copy, PartialEq, Eq)]
 pub struct JumpOffset {
     value: u32,
 }
 
 /// The immediate of LUI and AUIPC: 20 bits above twelve zeros.
-#[derive(Clone, Copy, Debug, PartialEq, Eq)]
+#[derive(Clone, Copy, PartialEq, Eq)]
 pub struct UpperImmediate {
     value: u32,
 }
 
 /// How far SLLI, SRLI and SRAI shift: from 0 to 31.
-#[derive(Clone, Copy, Debug, PartialEq, Eq)]
+#[derive(Clone, Copy, PartialEq, Eq)]
 pub struct ShiftAmount {
     value: u32,
 }

@@ -28,7 +28,7 @@ pub enum RegisterOp {
 }
 
 /// What an instruction on a register and an immediate computes (chapter 2.4).
-#[derive(Clone, Copy, Debug, PartialEq, Eq)]
+#[derive(Clone, Copy, PartialEq, Eq)]
 pub enum ImmediateOp {
     Addi,
     Slti,
@@ -39,7 +39,7 @@ pub enum ImmediateOp {
 }
 
 /// A shift by a constant (chapter 2.4).
-#[derive(Clone, Copy, Debug, PartialEq, Eq)]
+#[derive(Clone, Copy, PartialEq, Eq)]
 pub enum ShiftOp {
     Slli,
     Srli,
@@ -47,7 +47,7 @@ pub enum ShiftOp {
 }
 
 /// A load of a byte, a half-word or a word (chapter 2.6).
-#[derive(Clone, Copy, Debug, PartialEq, Eq)]
+#[derive(Clone, Copy, PartialEq, Eq)]
 pub enum LoadOp {
     Lb,
     Lh,
@@ -57,7 +57,7 @@ pub enum LoadOp {
 }
 
 /// A store of a byte, a half-word or a word (chapter 2.6).
-#[derive(Clone, Copy, Debug, PartialEq, Eq)]
+#[derive(Clone, Copy, PartialEq, Eq)]
 pub enum StoreOp {
     Sb,
     Sh,
@@ -65,7 +65,7 @@ pub enum StoreOp {
 }
 
 /// The condition of a branch (chapter 2.5).
-#[derive(Clone, Copy, Debug, PartialEq, Eq)]
+#[derive(Clone, Copy, PartialEq, Eq)]
 pub enum BranchOp {
     Beq,
     Bne,
@@ -76,7 +76,7 @@ pub enum BranchOp {
 }
 
 /// LUI and AUIPC (chapter 2.4).
-#[derive(Clone, Copy, Debug, PartialEq, Eq)]
+#[derive(Clone, Copy, PartialEq, Eq)]
 pub enum UpperOp {
     Lui,
     Auipc,
@@ -97,21 +97,21 @@ pub enum AmoOp {
 }
 
 /// ECALL and EBREAK (chapter 2.8).
-#[derive(Clone, Copy, Debug, PartialEq, Eq)]
+#[derive(Clone, Copy, PartialEq, Eq)]
 pub enum SystemOp {
     Ecall,
     Ebreak,
 }
 
 /// The bits aq and rl of LR, SC and the AMOs (chapter 8.1).
-#[derive(Clone, Copy, Debug, PartialEq, Eq)]
+#[derive(Clone, Copy, PartialEq, Eq)]
 pub struct Annotations {
     pub acquire: bool,
     pub release: bool,
 }
 
 /// An instruction, with what its format can encode.
-#[derive(Clone, Copy, Debug, PartialEq, Eq)]
+#[derive(Clone, Copy)]
 pub enum Instr {
     Upper {
         op: UpperOp,

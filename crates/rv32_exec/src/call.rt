@@ -8,7 +8,7 @@ use crate::registers::Regs;
 use rv32_decode::{Instr, Register, SystemOp};
 
 /// What an ECALL asks of its environment. The numbers are this machine's own.
-#[derive(Clone, Copy, Debug, PartialEq, Eq)]
+#[derive(Clone, Copy, PartialEq, Eq)]
 pub struct Call {
     /// [`Call::EXIT`], [`Call::OUTPUT`], or one at which the hart stops.
     pub number: u32,
