@@ -1,3 +1,4 @@
+use Rattle.std.proofs.lemmas.Grind.{common_steps}
 use Rattle.std.proofs.Common.{◌≡◌, ◌<◌, [], ap, length, get_or, arith, true, false, sym, ◌∙◌}
 use Rattle.std.specs.Prelude.{is_some}
 use Rattle.hart.specs.declared.status.Status.TheVariants.{Running}
@@ -30,3 +31,9 @@ returns-in_default-clause-runs c =
     sym (run_is t.image c.image-in-loop-id.result.now c.image.result.now c.loop-id.id c.harts-count.result (length t.entries) c.entry.result c.at_reset-reset.result c.entries.result.now (get_or t.entries c.loop-id.id []) c.statuses.result.now t.statuses c.image-in-loop-id.ensures c.at_reset-reset.ensures c.entry.ensures.exact c.image.ensures c.harts-count.ensures.entries c.entries.ensures.list c.statuses.ensures)
     ∙ (sym c.in_ok-items.ensures.runs ∙ ap is_some c.in_default.is) in
     sym (c.loop-id.invariant.runs ∙ run_fails t.image (length t.entries) c.loop-id.id t.entries t.statuses h k e)
+
+pub returns-clause-runs : goal.returns-clause-runs
+returns-clause-runs c = grind (arith, common_steps)
+
+pub returns-clause-all : goal.returns-clause-all
+returns-clause-all c = grind (arith, common_steps)

@@ -1,3 +1,4 @@
+use Rattle.std.proofs.lemmas.Grind.{common_steps}
 use Rattle.std.proofs.Common.{◌∙◌, None, ap, arith, get_or, length, refl, sym}
 use Rattle.hart.specs.declared.retired.Retired.{Retired}
 use Rattle.memory_model.specs.Items.{operation_of_entry}
@@ -31,3 +32,6 @@ returns-then-not-status_fits-clause-runs c = sym (c.loop-place.invariant.runs �
 
 pub returns-clause-runs : goal.returns-clause-runs
 returns-clause-runs c = sym (c.loop-place.invariant.runs ∙ (run_ended c.args.image.now c.args.status c.loop-place.hart c.args.entries.now c.loop-place.place (omega arith) ∙ (sym c.status_fits.ensures ∙ c.if-not-status_fits.false)))
+
+pub returns-clause-items : goal.returns-clause-items
+returns-clause-items c = grind (arith, common_steps)

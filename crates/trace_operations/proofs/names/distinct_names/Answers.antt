@@ -1,3 +1,4 @@
+use Rattle.std.proofs.lemmas.Grind.{common_steps}
 use Rattle.std.proofs.Common.{arith}
 use Rattle.trace_operations.proofs.Gathered.{distinct_at_first, distinct_step, distinct_stop, named_step, none_named, one_more}
 use Rattle.trace_operations.proofs.names.distinct_names.Goals as goal
@@ -18,3 +19,9 @@ loop-name-preserved c =
       distinct = distinct_step c.loop-name.names c.put.new.self c.args.list.now c.loop-name.name-index _ c.has.result (omega arith) c.loop-name.invariant.distinct more c.has.ensures c.if-has.false;
       names = named_step c.loop-name.names c.put.new.self c.args.list.now c.loop-name.name-index _ (omega arith) c.loop-name.invariant.names more;
     }
+
+pub returns-clause-distinct : goal.returns-clause-distinct
+returns-clause-distinct c = grind (arith, common_steps)
+
+pub returns-clause-names : goal.returns-clause-names
+returns-clause-names c = grind (arith, common_steps)

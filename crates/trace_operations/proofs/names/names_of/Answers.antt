@@ -1,3 +1,4 @@
+use Rattle.std.proofs.lemmas.Grind.{common_steps}
 use Rattle.std.proofs.Common.{◌||◌, ◌&&◌, ◌∙◌, ap, arith, sym}
 use Rattle.std.specs.Prelude.{nat_lt}
 use Rattle.memory_model.specs.Traces.{is_among}
@@ -17,3 +18,6 @@ loop-name-preserved c =
       | then-is_listed+in_ok-put w ↦ rw w.names-is (listed_step (is_listed t) c.loop-name.names w.put.new.self c.args.list.now c.loop-name.name-index _ (listed_alike t) (omega arith) c.loop-name.invariant (sym c.is_listed.ensures ∙ w.if-is_listed.true) (one_more c.loop-name.names w.put.new.self _ 1 (omega arith) w.in_ok-put.ensures))
       | else-is_listed w ↦ rw w.names-is (unlisted_step (is_listed t) c.loop-name.names c.args.list.now c.loop-name.name-index _ (listed_alike t) (omega arith) c.loop-name.invariant (sym c.is_listed.ensures ∙ w.if-is_listed.false))
     ]
+
+pub returns : goal.returns
+returns c = grind (arith, common_steps)

@@ -1,3 +1,4 @@
+use Rattle.std.proofs.lemmas.Grind.{common_steps}
 use Rattle.std.proofs.Common.{arith, sym}
 use Rattle.trace_operations.proofs.Counts.{few_named}
 use Rattle.trace_operations.proofs.Steps.{harts_next}
@@ -11,3 +12,6 @@ loop-hart-preserved c = record {
 
 pub returns-clause-few : goal.returns-clause-few
 returns-clause-few c = sym (few_named c.loop-hart.hart c.args.trace.now.history.entries c.loop-hart.names.items (omega arith) c.loop-hart.invariant.gathered (omega (arith, c.loop-hart.names.ok.0, c.loop-hart.invariant.few)))
+
+pub returns-clause-named : goal.returns-clause-named
+returns-clause-named c = grind (arith, common_steps)

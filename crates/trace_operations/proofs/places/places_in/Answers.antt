@@ -10,3 +10,6 @@ loop-position-init c = λ a. ap (λ (n : ℕ). option_or (known n) (place_from 0
 
 pub loop-position-preserved : goal.loop-position-preserved
 loop-position-preserved c = λ a. grind (arith, common_steps, or_placed, c.in_ok-put_first.ensures a, c.loop-position.invariant a)
+
+pub returns : goal.returns
+returns c = grind (arith, common_steps)

@@ -25,3 +25,6 @@ returns-clause-entries c =
     let h : c.args.hart < length c.self.inside.entries.items = grind (arith, common_steps, length-map) in
     let e = room-reserved c.self.inside.entries.items c.args.hart c.reserve.new.self h in
     rw e (omega (arith, c.in_ok-reserve.ensures.ok))
+
+pub index_mut-requires : goal.index_mut-requires
+index_mut-requires c = grind (arith, common_steps)
