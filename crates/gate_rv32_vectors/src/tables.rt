@@ -5,7 +5,7 @@ use rv32_exec::{Action, Regs, Width, combine, finish, plan};
 use std::str::Split;
 
 /// The tables, by what their lines are about.
-#[derive(Clone, Copy, Debug, PartialEq, Eq)]
+#[derive(Clone, Copy)]
 pub enum Table {
     Words,
     Instructions,
@@ -38,14 +38,12 @@ fn agrees_on_word(line: &str) -> Option<bool> {
 fn agrees_on_amo(line: &str) -> Option<bool> {
     let mut fields = line.split('\t');
     let op = amo_op(fields.next()?)?;
-    let old = next_number(&mut fields)?;
-    let operand = next_number(&mut fields)?;
-    let written = next_number(&mut fields)?;
+    let [old, operand, written] = next_numbers::<3>(&mut fields)?;
     Some(combine(op, old, operand) == written)
 }
 
 /// A line about an instruction: a number is none where its column has none.
-#[derive(Drop)]
+#[derive(Clone, Copy)]
 struct Executed {
     word: u32,
     pc: u32,
@@ -61,22 +59,23 @@ struct Executed {
 // A word, its pc, memory's size, x(rs1), x(rs2), x17, the number read, the plan, the next pc, and x(rd).
 fn read_executed(line: &str) -> Option<Executed> {
     let mut fields = line.split('\t');
-    let word = next_number(&mut fields)?;
-    let pc = next_number(&mut fields)?;
     // All lines have memory of 4 KiB.
-    if next_number(&mut fields)? != 4096 {
+    let [word, pc, 4096, rs1, rs2, x17] = next_numbers::<6>(&mut fields)? else {
         return None;
-    }
+    };
+    let read = number(fields.next()?);
+    let planned = read_plan(fields.next()?)?;
+    let [next, rd] = [number(fields.next()?), number(fields.next()?)];
     Some(Executed {
         word,
         pc,
-        rs1: next_number(&mut fields)?,
-        rs2: next_number(&mut fields)?,
-        x17: next_number(&mut fields)?,
-        read: number(fields.next()?),
-        planned: read_plan(fields.next()?)?,
-        next: number(fields.next()?),
-        rd: number(fields.next()?),
+        rs1,
+        rs2,
+        x17,
+        read,
+        planned,
+        next,
+        rd,
     })
 }
 
@@ -138,6 +137,14 @@ fn number(text: &str) -> Option<u32> {
 
 fn next_number(fields: &mut Split<'_, char>) -> Option<u32> {
     number(fields.next()?)
+}
+
+fn next_numbers<const N: usize>(fields: &mut Split<'_, char>) -> Option<[u32; N]> {
+    let mut numbers = [0; N];
+    for kept in numbers.iter_mut() {
+        *kept = next_number(fields)?;
+    }
+    Some(numbers)
 }
 
 fn next_width(words: &mut Split<'_, char>) -> Option<Width> {
