@@ -46,6 +46,37 @@ fn has_word(word: u32, group: &[Entry]) -> bool {
     has
 }
 
+impl Entry {
+    fn blank(alloc: Global, word: u32) -> Entry {
+        Entry {
+            word,
+            mask: [false; 4],
+            bytes: [0; 4],
+            ops: Vec::new(alloc),
+        }
+    }
+
+    /// A later store to the word goes over what the entry has.
+    fn merge(&mut self, store: &Store) -> Result<(), AllocError> {
+        self.ops.push(store.op)?;
+        overlay(&mut self.mask, &mut self.bytes, store.mask, store.value);
+        Ok(())
+    }
+}
+
+/// A store merges with its word's entry of the group, which is a new one where there is none.
+fn put_in(alloc: Global, group: &mut Vec<Entry>, store: &Store) -> Result<(), AllocError> {
+    if !has_word(store.word, group) {
+        group.push(Entry::blank(alloc, store.word))?;
+    }
+    for entry in group.iter_mut() {
+        if entry.word == store.word {
+            entry.merge(store)?;
+        }
+    }
+    Ok(())
+}
+
 impl Groups {
     pub fn new(alloc: Global) -> Groups {
         Groups {
@@ -104,29 +135,15 @@ impl Groups {
         model: MemoryModel,
         store: &Store,
     ) -> Result<(), AllocError> {
-        let joins = self.joins(store.word);
-        if !self.is_open || (model == MemoryModel::Ztso && !joins) {
+        let is_apart = model == MemoryModel::Ztso && !self.joins(store.word);
+        if !self.is_open || is_apart {
             self.groups.push(Vec::new(alloc))?;
             self.is_open = true;
         }
-        let Some(group) = self.groups.last_mut() else {
-            return Ok(());
-        };
-        if !joins {
-            group.push(Entry {
-                word: store.word,
-                mask: [false; 4],
-                bytes: [0; 4],
-                ops: Vec::new(alloc),
-            })?;
+        match self.groups.last_mut() {
+            Some(group) => put_in(alloc, group, store),
+            None => Ok(()),
         }
-        for entry in group.iter_mut() {
-            if entry.word == store.word {
-                entry.ops.push(store.op)?;
-                overlay(&mut entry.mask, &mut entry.bytes, store.mask, store.value);
-            }
-        }
-        Ok(())
     }
 
     /// The open group is closed behind its stores; an empty one stays.

@@ -113,6 +113,13 @@ impl Cache {
         })
     }
 
+    /// The line's Acquire goes out.
+    pub fn after_asked(&mut self, line: u32) -> Result<(), AllocError> {
+        let mut known = self.known(line);
+        known.is_acquiring = true;
+        self.put(known)
+    }
+
     /// A Grant answers the line's Acquire: the copy is clean, of its bytes or, without any, of its own.
     pub fn after_granted(
         &mut self,

@@ -2,9 +2,9 @@
 
 use crate::cache::Known;
 use crate::deciding::{Act, Deed};
+use crate::hart_state::perform;
 use crate::state::PlainMachine;
-use crate::steps::next_alone;
-use hart::{OpId, Retired, Status};
+use hart::{Retired, Status};
 use machine_types::{Body, Cap, Grow, Msg, Perm, shrink};
 use rv32_decode::Instr;
 use std::alloc::AllocError;
@@ -23,8 +23,7 @@ impl PlainMachine {
             return Ok(());
         };
         if deed.is_performed() {
-            let place = node.state.place();
-            self.performed.push(OpId { hart, place })?;
+            perform(&mut self.performed, hart, &[node.state.place()])?;
         }
         if let Deed::Sc { word, value } | Deed::Amo { word, value } = deed {
             node.cache
@@ -36,10 +35,8 @@ impl PlainMachine {
 
     /// An Acquire takes a tracker, and goes out.
     fn missed(&mut self, hart: u8, line: u32, grow: Grow) -> Result<(), AllocError> {
-        if let Some(node) = self.nodes.get_mut(usize::from(hart)) {
-            let mut known = node.cache.known(line);
-            known.is_acquiring = true;
-            node.cache.put(known)?;
+        if let Some(node) = self.node_mut(hart) {
+            node.cache.after_asked(line)?;
         }
         let body = Body::AcquireBlock(grow);
         self.sent(hart, Msg { line, body })
@@ -52,10 +49,7 @@ impl PlainMachine {
             return Ok(());
         };
         if let Some(entry) = node.state.buffer.drainable(word) {
-            for place in entry.ops.iter() {
-                let place = *place;
-                self.performed.push(OpId { hart, place })?;
-            }
+            perform(&mut self.performed, hart, &entry.ops)?;
             node.cache.word_written(word, entry.mask, entry.bytes)?;
         }
         node.state.buffer.after_take(word);
@@ -64,7 +58,7 @@ impl PlainMachine {
 
     /// The cache gives a line up.
     fn given_up(&mut self, hart: u8, line: u32) -> Result<(), AllocError> {
-        let Some(node) = self.nodes.get_mut(usize::from(hart)) else {
+        let Some(node) = self.node_mut(hart) else {
             return Ok(());
         };
         let known = node.cache.known(line);
@@ -87,22 +81,16 @@ impl PlainMachine {
 
     /// So many private instructions retire at once.
     fn went_alone(&mut self, hart: u8, count: u32) -> Result<(), AllocError> {
-        let Some(node) = self.nodes.get_mut(usize::from(hart)) else {
-            return Ok(());
-        };
-        for _ in 0..count {
-            if let Some((entry, next)) = next_alone(&self.image, &node.state.hart) {
-                node.state.entries.push(entry)?;
-                node.state.hart = next;
-            }
+        match self.nodes.get_mut(usize::from(hart)) {
+            Some(node) => node.state.went_alone(&self.image, count),
+            None => Ok(()),
         }
-        Ok(())
     }
 
     pub(crate) fn acted(&mut self, hart: u8, act: &Act) -> Result<(), AllocError> {
         match act {
             Act::Stop(code) => {
-                if let Some(node) = self.nodes.get_mut(usize::from(hart)) {
+                if let Some(node) = self.node_mut(hart) {
                     node.state.hart.status = Status::Stopped(*code);
                 }
                 Ok(())

@@ -125,7 +125,7 @@ impl PlainMachine {
 
     /// A Probe: the copy shrinks, and its answer says to what.
     fn on_probe(&mut self, hart: u8, line: u32, cap: Cap) -> Result<(), AllocError> {
-        let Some(node) = self.nodes.get_mut(usize::from(hart)) else {
+        let Some(node) = self.node_mut(hart) else {
             return Ok(());
         };
         let known = node.cache.known(line);
@@ -153,7 +153,7 @@ impl PlainMachine {
         cap: Cap,
         bytes: Option<LineData>,
     ) -> Result<(), AllocError> {
-        if let Some(node) = self.nodes.get_mut(usize::from(hart)) {
+        if let Some(node) = self.node_mut(hart) {
             node.cache.after_granted(line, cap, bytes)?;
         }
         let body = Body::GrantAck;
@@ -162,7 +162,7 @@ impl PlainMachine {
 
     /// A ReleaseAck: the line's Release is answered.
     fn on_release_ack(&mut self, hart: u8, line: u32) -> Result<(), AllocError> {
-        let Some(node) = self.nodes.get_mut(usize::from(hart)) else {
+        let Some(node) = self.node_mut(hart) else {
             return Ok(());
         };
         let mut known = node.cache.known(line);

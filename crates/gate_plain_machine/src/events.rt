@@ -122,11 +122,12 @@ impl PlainMachine {
     }
 
     /// So many events have changed the machine, or the hart's list would pass its length.
-    fn is_limited(&self, node: &Node, act: &Act) -> bool {
-        let more = match act {
-            Act::Retire { .. } => 1,
-            Act::Local(count) => *count as usize,
-            _ => 0,
+    fn is_limited(&self, node: &Node, plan: &Plan) -> bool {
+        let more = match plan {
+            Plan::Stays(_) => return false,
+            Plan::Changes(Act::Retire { .. }) => 1,
+            Plan::Changes(Act::Local(count)) => *count as usize,
+            Plan::Changes(_) => 0,
         };
         let entries = node.state.entries.len().saturating_add(more);
         self.changes >= MOST_CHANGES || entries > MOST_ENTRIES
@@ -136,18 +137,31 @@ impl PlainMachine {
     /// nothing.
     pub fn apply(&mut self, event: Event) -> Result<Outcome, Refusal> {
         let hart = hart_of(event);
-        let node = self.nodes.get(usize::from(hart)).ok_or(Refusal::BadEvent)?;
-        let act = match self.plan_of(node, event) {
-            None => return Err(Refusal::BadEvent),
-            Some(Plan::Stays(outcome)) => return Ok(outcome),
-            Some(Plan::Changes(act)) => act,
-        };
-        if self.is_limited(node, &act) {
-            return Err(Refusal::Limit);
+        match self.plan(hart, event) {
+            Err(refusal) => Err(refusal),
+            Ok(Plan::Stays(outcome)) => Ok(outcome),
+            Ok(Plan::Changes(act)) => self.changed(hart, &act),
         }
-        self.acted(hart, &act)?;
+    }
+
+    /// What an event of a hart comes to, where it isn't refused.
+    fn plan(&self, hart: u8, event: Event) -> Result<Plan, Refusal> {
+        let node = self.known_node(hart)?;
+        match self.plan_of(node, event) {
+            None => Err(Refusal::BadEvent),
+            Some(plan) if self.is_limited(node, &plan) => Err(Refusal::Limit),
+            Some(plan) => Ok(plan),
+        }
+    }
+
+    fn known_node(&self, hart: u8) -> Result<&Node, Refusal> {
+        self.nodes.get(usize::from(hart)).ok_or(Refusal::BadEvent)
+    }
+
+    fn changed(&mut self, hart: u8, act: &Act) -> Result<Outcome, Refusal> {
+        self.acted(hart, act)?;
         self.changes = self.changes.saturating_add(1);
-        let node = self.nodes.get(usize::from(hart)).ok_or(Refusal::BadEvent)?;
-        Ok(outcome_of(&act, node.state.hart.status))
+        let node = self.known_node(hart)?;
+        Ok(outcome_of(act, node.state.hart.status))
     }
 }

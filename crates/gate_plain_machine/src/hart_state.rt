@@ -2,12 +2,25 @@
 
 use crate::buffer::Groups;
 use crate::deciding::{Act, Deed, Plan};
-use crate::steps::after_instr;
+use crate::steps::{after_instr, next_alone};
 use elf_loader::Image;
-use hart::{Hart, Retired};
+use hart::{Hart, OpId, Retired};
 use machine_types::{Config, MemoryModel, Outcome};
 use rv32_decode::Instr;
 use std::alloc::{AllocError, Global};
+
+/// A hart's operations at these places of its list are performed, one behind another.
+pub(crate) fn perform(
+    performed: &mut Vec<OpId>,
+    hart: u8,
+    places: &[u32],
+) -> Result<(), AllocError> {
+    for place in places {
+        let place = *place;
+        performed.push(OpId { hart, place })?;
+    }
+    Ok(())
+}
 
 #[derive(Drop)]
 pub(crate) struct HartState {
@@ -65,8 +78,23 @@ impl HartState {
             Deed::Fail | Deed::Sc { .. } => self.reserved = None,
             Deed::Private | Deed::Load { .. } | Deed::Amo { .. } => {}
         }
-        self.hart = after_instr(&self.hart, &entry, instr);
+        let after = after_instr(&self.hart, &entry, instr);
+        self.moved_on(entry, after)
+    }
+
+    fn moved_on(&mut self, entry: Retired, after: Hart) -> Result<(), AllocError> {
         self.entries.push(entry)?;
+        self.hart = after;
+        Ok(())
+    }
+
+    /// So many private instructions retire at once.
+    pub fn went_alone(&mut self, image: &Image, count: u32) -> Result<(), AllocError> {
+        for _ in 0..count {
+            if let Some((entry, after)) = next_alone(image, &self.hart) {
+                self.moved_on(entry, after)?;
+            }
+        }
         Ok(())
     }
 }

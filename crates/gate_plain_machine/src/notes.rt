@@ -12,7 +12,7 @@ pub(crate) struct Noted {
 }
 
 /// Where a line's transaction stands.
-#[derive(Clone, Copy, Debug, PartialEq, Eq)]
+#[derive(Clone, Copy, PartialEq, Eq)]
 pub enum Transaction {
     Idle,
     /// ProbeAcks are awaited before this requester's Grant.

@@ -6,9 +6,10 @@ use crate::notes::Notes;
 use crate::queues::Waiting;
 use crate::words::{bytes_at, lines_below};
 use elf_loader::{BASE, Image};
-use hart::{Direction, Logged, OpId, Trace, are_within_limits};
+use hart::{Direction, Logged, OpId, Retired, Status, Trace, are_within_limits};
 use machine_types::{Config, LineData, LineSize, Msg, Perm};
 use std::alloc::{AllocError, Global};
+use std::mem::replace;
 
 /// What belongs to one hart.
 #[derive(Drop)]
@@ -81,16 +82,25 @@ impl PlainMachine {
     /// Memory is the image's, nobody has a line, and each hart is about to start.
     fn reset(&mut self) -> Result<(), AllocError> {
         self.memory.extend_from_slice(self.image.bytes())?;
-        for _ in 0..lines_below(self.config.line, self.image.size()) {
-            self.notes.push(Notes::quiet())?;
-        }
+        let lines = lines_below(self.config.line, self.image.size());
+        self.notes.resize(lines as usize, Notes::quiet())?;
         for id in 0..8u8 {
             if u32::from(id) < self.config.harts {
-                self.nodes
-                    .push(opening_node(self.alloc, &self.image, &self.config, id))?;
+                self.add_node(id)?;
             }
         }
         Ok(())
+    }
+
+    fn add_node(&mut self, id: u8) -> Result<(), AllocError> {
+        let node = opening_node(self.alloc, &self.image, &self.config, id);
+        self.nodes.push(node)?;
+        Ok(())
+    }
+
+    /// The hart of this number; none where there is no such hart.
+    pub(crate) fn node_mut(&mut self, hart: u8) -> Option<&mut Node> {
+        self.nodes.get_mut(usize::from(hart))
     }
 
     /// What is noted of the line that begins at an address.
@@ -130,11 +140,15 @@ impl PlainMachine {
 
     /// A message goes to the back of its channel's queue of a hart, and into the log.
     pub(crate) fn sent(&mut self, hart: u8, message: Msg) -> Result<(), AllocError> {
-        if let Some(node) = self.nodes.get_mut(usize::from(hart)) {
+        if let Some(node) = self.node_mut(hart) {
             node.queues.queue_of_mut(message.channel()).push(message)?;
         }
+        self.logged(Direction::Sent, hart, message)
+    }
+
+    fn logged(&mut self, direction: Direction, hart: u8, message: Msg) -> Result<(), AllocError> {
         self.log.push(Logged {
-            direction: Direction::Sent,
+            direction,
             hart,
             message,
         })?;
@@ -143,12 +157,8 @@ impl PlainMachine {
 
     /// The message leaves the front of its queue, which the log says first.
     pub(crate) fn taken(&mut self, hart: u8, message: Msg) -> Result<(), AllocError> {
-        self.log.push(Logged {
-            direction: Direction::Taken,
-            hart,
-            message,
-        })?;
-        if let Some(node) = self.nodes.get_mut(usize::from(hart)) {
+        self.logged(Direction::Taken, hart, message)?;
+        if let Some(node) = self.node_mut(hart) {
             let queue = node.queues.queue_of_mut(message.channel());
             if !queue.is_empty() {
                 queue.remove(0);
@@ -157,31 +167,56 @@ impl PlainMachine {
         Ok(())
     }
 
+    fn statuses(&self) -> Result<Vec<Status>, AllocError> {
+        let mut statuses = Vec::new(self.alloc);
+        for node in self.nodes.iter() {
+            statuses.push(node.state.hart.status)?;
+        }
+        Ok(statuses)
+    }
+
+    /// The harts' lists leave the machine.
+    fn take_entries(&mut self) -> Result<Vec<Vec<Retired>>, AllocError> {
+        let mut entries = Vec::new(self.alloc);
+        for node in self.nodes.iter_mut() {
+            entries.push(replace(&mut node.state.entries, Vec::new(self.alloc)))?;
+        }
+        Ok(entries)
+    }
+
+    /// What the harts put out leaves the machine.
+    fn take_outputs(&mut self) -> Result<Vec<Vec<u32>>, AllocError> {
+        let mut outputs = Vec::new(self.alloc);
+        for node in self.nodes.iter_mut() {
+            outputs.push(replace(&mut node.state.output, Vec::new(self.alloc)))?;
+        }
+        Ok(outputs)
+    }
+
     /// The trace, and what each hart put out; none where the lists are larger than a trace's, which no events
     /// lead to.
-    pub fn into_parts(self) -> Result<Option<(Trace, Vec<Vec<u32>>)>, AllocError> {
-        let size = self.config.line;
-        let alloc = self.alloc;
-        let mut entries = Vec::new(alloc);
-        let mut statuses = Vec::new(alloc);
-        let mut outputs = Vec::new(alloc);
-        for node in self.nodes {
-            let state = node.state;
-            statuses.push(state.hart.status)?;
-            entries.push(state.entries)?;
-            outputs.push(state.output)?;
+    pub fn into_parts(mut self) -> Result<Option<(Trace, Vec<Vec<u32>>)>, AllocError> {
+        let statuses = self.statuses()?;
+        let outputs = self.take_outputs()?;
+        let entries = self.take_entries()?;
+        Ok(match self.into_trace(entries, statuses) {
+            Some(trace) => Some((trace, outputs)),
+            None => None,
+        })
+    }
+
+    /// The trace of these lists, where they are a trace's.
+    fn into_trace(self, entries: Vec<Vec<Retired>>, statuses: Vec<Status>) -> Option<Trace> {
+        if entries.len() != statuses.len() || !are_within_limits(&entries) {
+            return None;
         }
-        if !are_within_limits(&entries) {
-            return Ok(None);
-        }
-        let trace = Trace::from_parts(
+        Some(Trace::from_parts(
             self.image,
-            size,
+            self.config.line,
             entries,
             statuses,
             self.performed,
             self.log,
-        );
-        Ok(Some((trace, outputs)))
+        ))
     }
 }

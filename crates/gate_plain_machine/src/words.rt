@@ -58,11 +58,9 @@ pub(crate) fn overlay(
     upper_marks: Marks,
     upper_bytes: [u8; 4],
 ) {
-    for k in 0..4 {
-        if upper_marks[k] {
-            marks[k] = true;
-            bytes[k] = upper_bytes[k];
-        }
+    write_word(bytes, 0, upper_marks, upper_bytes);
+    for (mark, upper) in marks.iter_mut().zip(upper_marks.iter()) {
+        *mark = *mark || *upper;
     }
 }
 

@@ -3,7 +3,7 @@
 use crate::deciding::{Act, Deed, Plan, outcome_of};
 use crate::events::Refusal;
 use crate::flat::accesses::{Accessed, Kind, Rules, Variant};
-use crate::hart_state::HartState;
+use crate::hart_state::{HartState, perform};
 use crate::steps::{fetch, retires, retires_as, stall_of, write_waits};
 use crate::words::{bytes_at, word_of, write_word};
 use elf_loader::{BASE, Image};
@@ -57,13 +57,17 @@ impl FlatMachine {
     /// Memory is the image's, and each hart is about to start.
     fn reset(&mut self) -> Result<(), AllocError> {
         self.memory.extend_from_slice(self.image.bytes())?;
-        let config = &self.rules.config;
         for id in 0..8u8 {
-            if u32::from(id) < config.harts {
-                self.harts
-                    .push(HartState::at_reset(self.alloc, &self.image, config, id))?;
+            if u32::from(id) < self.rules.config.harts {
+                self.add_hart(id)?;
             }
         }
+        Ok(())
+    }
+
+    fn add_hart(&mut self, id: u8) -> Result<(), AllocError> {
+        let state = HartState::at_reset(self.alloc, &self.image, &self.rules.config, id);
+        self.harts.push(state)?;
         Ok(())
     }
 
@@ -137,8 +141,7 @@ impl FlatMachine {
             return Ok(());
         };
         if deed.is_performed() {
-            let place = state.place();
-            self.performed.push(OpId { hart, place })?;
+            perform(&mut self.performed, hart, &[state.place()])?;
         }
         if let Deed::Sc { word, value } | Deed::Amo { word, value } = deed {
             let place = word.saturating_sub(BASE) as usize;
@@ -159,10 +162,7 @@ impl FlatMachine {
             return Ok(());
         };
         if let Some(entry) = state.buffer.drainable(word) {
-            for place in entry.ops.iter() {
-                let place = *place;
-                self.performed.push(OpId { hart, place })?;
-            }
+            perform(&mut self.performed, hart, &entry.ops)?;
             let place = word.saturating_sub(BASE) as usize;
             write_word(&mut self.memory, place, entry.mask, entry.bytes);
         }
@@ -190,19 +190,30 @@ impl FlatMachine {
     /// SC with a good address.
     pub fn apply(&mut self, event: FlatEvent) -> Result<Outcome, Refusal> {
         let hart = hart_of(event);
-        let state = self.harts.get(usize::from(hart)).ok_or(Refusal::BadEvent)?;
-        let plan = match event {
-            FlatEvent::Step { .. } => Some(self.plan_step(state)),
-            FlatEvent::Drain { word, .. } => Some(state.plan_drain(word)),
-            FlatEvent::Fail { .. } => self.plan_fail(state),
-        };
-        let act = match plan {
-            None => return Err(Refusal::BadEvent),
-            Some(Plan::Stays(outcome)) => return Ok(outcome),
-            Some(Plan::Changes(act)) => act,
-        };
-        self.acted(hart, &act)?;
-        let state = self.harts.get(usize::from(hart)).ok_or(Refusal::BadEvent)?;
-        Ok(outcome_of(&act, state.hart.status))
+        match self.plan(hart, event) {
+            Err(refusal) => Err(refusal),
+            Ok(Plan::Stays(outcome)) => Ok(outcome),
+            Ok(Plan::Changes(act)) => self.changed(hart, &act),
+        }
+    }
+
+    /// What an event of a hart comes to, where it isn't refused.
+    fn plan(&self, hart: u8, event: FlatEvent) -> Result<Plan, Refusal> {
+        let state = self.known_hart(hart)?;
+        match event {
+            FlatEvent::Step { .. } => Ok(self.plan_step(state)),
+            FlatEvent::Drain { word, .. } => Ok(state.plan_drain(word)),
+            FlatEvent::Fail { .. } => self.plan_fail(state).ok_or(Refusal::BadEvent),
+        }
+    }
+
+    fn known_hart(&self, hart: u8) -> Result<&HartState, Refusal> {
+        self.harts.get(usize::from(hart)).ok_or(Refusal::BadEvent)
+    }
+
+    fn changed(&mut self, hart: u8, act: &Act) -> Result<Outcome, Refusal> {
+        self.acted(hart, act)?;
+        let state = self.known_hart(hart)?;
+        Ok(outcome_of(act, state.hart.status))
     }
 }
