@@ -1,21 +1,23 @@
 -- What an access comes to by what its checks found.
-use Rattle.std.specs.Prelude.{ℕ, ◌≡◌, ◌%◌, Bool, true, false, if◌then◌else◌, List, Some, None}
+use Rattle.std.specs.Prelude.{ℕ, ◌≡◌, ◌%◌, Bool, true, false, if◌then◌else◌, List, not, Some, None}
 use Rattle.std.proofs.Common.{sym, ◌∙◌, ap}
 use Rattle.std.specs.declared.result.Result.{Result}
 use Rattle.client_cache.specs.Cache.{Cache}
 use Rattle.machine_model.specs.Deciding.{reading, writing}
+use Rattle.machine_model.specs.Events.{plan_drain}
 use Rattle.machine_model.specs.Steps.{Fetched, plan_amo, plan_load, plan_lr, retires, update, waits_for_stores, write_waits}
 use Rattle.machine_model.specs.Views.{Node}
 use Rattle.machine_model.specs.Words.{read_from, word_in, word_of}
+use Rattle.machine_model.specs.declared.act.Act.TheVariants as act
 use Rattle.machine_model.specs.declared.act.Deed.TheVariants as deed
 use Rattle.machine_model.specs.declared.act.Plan.{Plan}
-use Rattle.machine_model.specs.declared.act.Plan.TheVariants.{Stays}
+use Rattle.machine_model.specs.declared.act.Plan.TheVariants.{Changes, Stays}
 use Rattle.machine_parts.specs.Deciding.{with_line}
 use Rattle.machine_types.specs.declared.model.MemoryModel.{MemoryModel}
-use Rattle.machine_types.specs.declared.outcome.Outcome.TheVariants.{MustDrain}
+use Rattle.machine_types.specs.declared.outcome.Outcome.TheVariants.{MustDrain, NoEntry, NotOldest}
 use Rattle.rv32_decode.specs.declared.instruction.AmoOp.{AmoOp}
 use Rattle.store_buffer.specs.ByteMask.{covers, laid_over, marks_of_access}
-use Rattle.store_buffer.specs.Groups.{Groups, forwarded}
+use Rattle.store_buffer.specs.Groups.{Groups, drainable, forwarded, has}
 use Rattle.machine_types.specs.Line.{line_of}
 use Rattle.machine_types.specs.declared.line.LineData.{LineData}
 
@@ -89,3 +91,20 @@ pub lr_writing : (n : Node) (f : Fetched) (address line : ℕ) (buffer : Groups)
 lr_writing n f address line buffer cache found copy same free at there writes is =
     let go = lr_of n f address in
     sym (writes go ∙ ap (with_line go) is) ∙ (ap (λ (c : Cache). writing go c line) there ∙ (ap (writing go n.cache) at ∙ lr_by n f address buffer false same free))
+
+-- ---- drains
+
+abbrev pub drain_of : (word : ℕ) → LineData → Plan
+drain_of word line = Changes (act.Drain word)
+
+-- of a word whose turn it is
+pub drain_writing : (n : Node) (word line : ℕ) (buffer : Groups) (cache : Cache) (found copy : Result LineData Plan)
+    → buffer ≡ n.buffer → has word buffer ≡ true → drainable word buffer ≡ true → line ≡ line_of n.cache.shape.size word → cache ≡ n.cache → ((go : LineData → Plan) → writing go cache line ≡ with_line go found) → found ≡ copy
+    → with_line (drain_of word) copy ≡ plan_drain n word
+drain_writing n word line buffer cache found copy same waits oldest at there writes is =
+    let go = drain_of word in
+    let held = ap (has word) (sym same) ∙ waits in
+    let first = ap (drainable word) (sym same) ∙ oldest in
+    let goes = writing go n.cache (line_of n.cache.shape.size word) in
+    sym (writes go ∙ ap (with_line go) is) ∙ (ap (λ (c : Cache). writing go c line) there ∙ (ap (writing go n.cache) at
+    ∙ sym (ap (λ (b : Bool). if not b then Stays NoEntry else if not (drainable word n.buffer) then Stays NotOldest else goes) held ∙ ap (λ (b : Bool). if not b then Stays NotOldest else goes) first)))
