@@ -5,7 +5,7 @@ use Rattle.std.specs.List.{AllByRecursion as Each}
 use Rattle.std.proofs.lemmas.Bool.{true≢false}
 use Rattle.std.proofs.Math.Seq.{drop-nil}
 use Rattle.std.proofs.lemmas.List.{at_drop_more, drop-drop, drop_all}
-use Rattle.std.proofs.lemmas.Option.{same_Some, slice_get_within}
+use Rattle.std.proofs.lemmas.Option.{slice_get_within}
 use Rattle.machine_types.specs.declared.model.MemoryModel.{MemoryModel}
 use Rattle.memory_model.specs.declared.operation.Operation.{Operation}
 use Rattle.memory_model.specs.Items.{Item}
@@ -15,12 +15,14 @@ use Rattle.memory_model.specs.Rules.{asked_by}
 use Rattle.memory_model.proofs.Forms.{place_head, place_tail, same-self, same-swap}
 use Rattle.memory_model.proofs.Lists.{Member, Each-at, Each-from}
 use Rattle.memory_model.proofs.Named.{EachOnce}
-use Rattle.rvwmo_order.specs.Bounds.{BoundsEach, AreDistinctOperations, RanksEach, bound_of, greatest_of, unbounded, weight_of}
-use Rattle.rvwmo_order.specs.Codes.{rule_of}
+use Rattle.order_bounds.specs.Bounds.{BoundsEach, RanksEach, bound_of, greatest_of, unbounded, weight_of}
+use Rattle.ranked_orders.specs.Ranks.{AreDistinctOperations}
+use Rattle.ranked_orders.proofs.Ranks.{member_at, position_at}
+use Rattle.order_bounds.specs.Rules.{rule_of}
 use Rattle.rvwmo_order.specs.Scans.{first_broken_rule, first_out_of_order, found_or, ruled_or}
-use Rattle.rvwmo_order.specs.declared.rows.Row.{Row}
-use Rattle.rvwmo_order.specs.declared.verdict.Rule.{Rule}
-use Rattle.rvwmo_order.specs.declared.verdict.Rule.TheVariants.{OverlappingStore, SameByteLoads, AtomicSource, Fence, Acquire, Release, Annotations, Pair, Address, Data, Control, DependentStore, DependentAddress}
+use Rattle.order_bounds.specs.declared.rows.Row.{Row}
+use Rattle.order_bounds.specs.declared.rule.Rule.{Rule}
+use Rattle.order_bounds.specs.declared.rule.Rule.TheVariants.{OverlappingStore, SameByteLoads, AtomicSource, Fence, Acquire, Release, Annotations, Pair, Address, Data, Control, DependentStore, DependentAddress}
 
 pub distinct_once : (order : List Operation) → EachOnce order → AreDistinctOperations order
 distinct_once [] h = tt
@@ -111,23 +113,6 @@ cut_off test (x ∷ xs) zero (suc q) l f =
 cut_off test (x ∷ xs) (suc p) zero l f = absurd (omega (arith, l))
 cut_off test (x ∷ xs) (suc p) (suc q) l f = cut_off test xs p q (omega (arith, l)) (λ k a e m n. f (suc k) a e (omega (arith, m)) (omega (arith, n)))
 
-member_at : (order : List Operation) (k : ℕ) (a : Operation) → slice_get order k ≡ Some a → Member a order
-member_at [] k a e = absurd (no_some a e)
-  where
-    no_some : (a : Operation) → None ≡ Some a → ⊥
-    no_some a e = cc
-member_at (x ∷ xs) zero a e = inl (sym (same_Some x a e))
-member_at (x ∷ xs) (suc k) a e = inr (member_at xs k a e)
-
-pub position_at : (order : List Operation) (k : ℕ) (a : Operation) → AreDistinctOperations order → slice_get order k ≡ Some a → position_in order a ≡ k
-position_at [] k a d e = absurd (member_at [] k a e)
-position_at (x ∷ xs) zero a d e = place_head a x xs (ap (same a) (same_Some x a e) ∙ same-self a)
-position_at (x ∷ xs) (suc k) a d e =
-    let other : same a x ≡ false = same-swap x a (Each-at (λ (c : Operation). same x c ≡ false) a xs d.0 (member_at xs k a e)) in
-    let place = place_tail a x xs other in
-    let ih = position_at xs k a d.1 e in
-    omega (arith, place, ih)
-
 -- those that the bound leaves have the first that must come before it
 pub first_left : (model : MemoryModel) (harts : List (List Item)) (order : List Operation) (weights : List ℕ) (rows : List Row) (rule : Rule) (p count first from : ℕ) (b : Operation) → AreDistinctOperations order → BoundsEach model harts order weights rows → count ≡ length order → slice_get order p ≡ Some b
     → ((k : ℕ) → p < k → k < count → slice_index_or weights k 0 ≡ count - k) → first ≡ count - bound_of rule (slice_index_or rows p unbounded) → from ≡ max first (p + 1)
@@ -143,26 +128,6 @@ first_left model harts order weights rows rule p count first from b d bounds cou
         let weight = weighed k (omega (arith, m)) (omega (arith, long, counted)) in
         absurd (omega (arith, heavy, at, weight, long, counted, bound, cut, m, n))
     go k a e m n false t = t
-
--- ---- ranks
-
-position_within : (order : List Operation) (a : Operation) → Member a order → position_in order a < length order
-position_within [] a m = absurd m
-position_within (x ∷ rest) a m = go (same a x) refl m (position_within rest a)
-  where
-    go : (c : Bool) → same a x ≡ c → (a ≡ x) ⊎ Member a rest → (Member a rest → position_in rest a < length rest) → position_in (x ∷ rest) a < suc (length rest)
-    go true e m ih = let place = place_head a x rest e in omega (arith, place)
-    go false e (inl k) ih = absurd (true≢false (sym (same-self a) ∙ (ap (same a) k ∙ e)))
-    go false e (inr k) ih = let place = place_tail a x rest e in let l = ih k in omega (arith, place, l)
-
-pub ranked : (model : MemoryModel) (harts : List (List Item)) (order : List Operation) (weights : List ℕ) (rows : List Row) → ((k : ℕ) → k < length order → slice_index_or weights k 0 ≡ k + 1) → BoundsEach model harts order weights rows → RanksEach model harts order rows
-ranked model harts order weights rows w bounds = record {
-  each = λ p b e rule.
-      Each-from (λ (a : Operation). asked_by model harts order (rule_of rule) a b ≡ true → position_in order a < bound_of rule (slice_index_or rows p unbounded)) order (λ a m t.
-      let bound = Each-at (λ (y : Operation). asked_by model harts order (rule_of rule) y b ≡ true → weight_of weights order y ≤ bound_of rule (slice_index_or rows p unbounded)) a order (bounds.each p b e rule) m t in
-      let rank = w (position_in order a) (position_within order a m) in
-      omega (arith, bound, rank));
-}
 
 -- ---- where no bound leaves room
 

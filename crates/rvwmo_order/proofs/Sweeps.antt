@@ -14,12 +14,9 @@ use Rattle.memory_model.specs.Operations.{precedes}
 use Rattle.trace_operations.specs.Placed.{IsPlaced}
 use Rattle.rvwmo_order.specs.Sweeps.{addressing, carries, gives_wanted, is_written, marks_of, nothing, steering, wanted_before, wanted_from}
 use Rattle.trace_operations.proofs.Placed.{between_cut}
+use Rattle.order_bounds.proofs.Flags.{length-held_first, length-with_flags, no_flag}
 
 -- ---- flags
-
-pub length-with_flags : (held : List Bool) (flag : Bool) (written : List ℕ) → length (with_flags held flag written) ≡ length held
-length-with_flags held flag [] = refl
-length-with_flags held flag (w ∷ rest) = length-with_flags (set held w flag) flag rest ∙ length-set held w flag
 
 flag_set : (held : List Bool) (flag : Bool) (w r : ℕ) → length held ≡ 32 → slice_index_or (set held w flag) r false ≡ cond (nat_lt r 32 && nat_eq w r) flag (slice_index_or held r false)
 flag_set held flag w r h = ⊎_elim same other (cases_eq w r)
@@ -107,12 +104,6 @@ carried asks last held [] h = refl
 carried asks last held (m ∷ rest) h =
     ap (λ (b : Bool). holds held (asks m) || b) (carried asks last (held_after held (uses_in m.instr)) rest (length-held_after held (uses_in m.instr) h) ∙ before_after held (uses_in m.instr) (wanted_from asks last rest) h)
     ∙ sym (list_any-append (λ r. slice_index_or held r false) (asks m) (wanted_before (uses_in m.instr) (wanted_from asks last rest)))
-
-pub length-held_first : (u : Uses) → length (held_first u) ≡ 32
-length-held_first u = length-with_flags (replicate 32 false) true u.written ∙ length-replicate 32 false
-
-pub no_flag : (r : ℕ) → get_or (replicate 32 false) r false ≡ false
-no_flag r = ⊎_elim (λ l. get_or-replicate 32 r false false l) (λ l. get_or_past (replicate 32 false) r false (let k = length-replicate 32 false in omega (arith, k, l))) (cases_lt r 32)
 
 first_flag : (u : Uses) (r : ℕ) → slice_index_or (held_first u) r false ≡ is_written u.written r
 first_flag u r = flag_at (replicate 32 false) true u.written r (length-replicate 32 false) ∙ (ap (cond (is_written u.written r) true) (no_flag r) ∙ go (is_written u.written r))

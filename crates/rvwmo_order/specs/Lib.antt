@@ -1,12 +1,6 @@
 pub mod Codes
 pub mod Scans
 pub mod Answers
-pub mod Ranks
 pub mod Lows
 pub mod Sweeps
 pub mod Marks
-pub mod Sourcing
-pub mod Carried
-pub mod Passed
-pub mod Touched
-pub mod Bounds

@@ -1,24 +1,21 @@
 //! The thirteen rules of preserved program order (chapter 14.1, "Preserved Program Order"), each a test of
 //! two operations of one hart, `a` before `b` in program order. `items` is the list of their hart.
-ghost use Rattle.std.specs.Prelude.{◌≡◌, ◌&&◌, ◌||◌, Some, false, true};
+ghost use Rattle.std.specs.Prelude.{◌≡◌, ◌&&◌, ◌||◌, true};
 ghost use Rattle.memory_model.specs.declared.operation.Operation.{Operation as OperationValue};
-ghost use Rattle.memory_model.specs.declared.operation.Kind.{Kind as KindValue};
 ghost use Rattle.std.specs.List.{list_any};
 ghost use Rattle.memory_model.specs.Rules as spec;
 ghost use Rattle.memory_model.specs.Dependencies.{between};
 ghost use Rattle.memory_model.specs.Operations.{addresses_of};
-ghost use Rattle.rvwmo_order.specs.Bounds.{IsGiven};
+ghost use Rattle.order_bounds.specs.Bounds.{IsGiven};
 ghost use Rattle.rvwmo_order.specs.Scans as scans;
-ghost use Rattle.rvwmo_order.specs.Codes.{rule_of};
+ghost use Rattle.order_bounds.specs.Rules.{rule_of};
 ghost use Rattle.rvwmo_order.specs.Marks.{Tells};
 
-use crate::ranking::Ranking;
-use crate::sources::{is_same_source, returns_from};
 use crate::sweeping::Sweep;
-use crate::verdict::Rule;
 use machine_types::MemoryModel;
-use memory_model::{Kind, Operation};
-use rv32_decode::{FenceSet, Instr};
+use memory_model::Operation;
+use order_bounds::{Rule, fences, is_lr_or_sc};
+use ranked_orders::{Ranking, is_same_source, returns_from};
 use trace_operations::Items;
 use trace_operations::accesses::{
     end_of, has_acquire, has_rcsc, has_release, is_amo, is_lr, is_sc, overlap, precedes, reads,
@@ -121,52 +118,6 @@ pub(crate) fn is_fenced(items: &Items, a: &Operation, b: &Operation) -> bool
     false
 }
 
-// An AMO is in a set as a load or as a store.
-fn is_in_set(set: FenceSet, kind: Kind) -> bool
-    ensures { result ≡ spec.is_in_set set.0 kind }
-{
-    (reads(kind) && set.has_reads()) || (writes(kind) && set.has_writes())
-}
-
-// Whether an instruction orders an operation of the first kind before one of the second.
-pub(crate) fn fences(instr: Option<Instr>, a: Kind, b: Kind) -> bool
-    ensures { result ≡ spec.fences instr a b }
-{
-    match instr {
-        Some(instr) => is_fencing(&instr, a, b),
-        None => false,
-    }
-}
-
-/// Whether it is a FENCE of any kind.
-pub(crate) fn is_fence(instr: Option<Instr>) -> bool
-    ensures { result ≡ false → (a b : KindValue) → spec.fences instr a b ≡ false }
-{
-    matches!(instr, Some(Instr::Fence(_) | Instr::FenceTso))
-}
-
-fn is_fencing(instr: &Instr, a: Kind, b: Kind) -> bool
-    ensures { result ≡ spec.fences (Some instr.now) a b }
-{
-    match instr {
-        Instr::Fence(sets) => is_in_set(sets.before(), a) && is_in_set(sets.after(), b),
-        Instr::FenceTso => reads(a) || (writes(a) && writes(b)),
-        Instr::Branch { .. }
-        | Instr::Jalr { .. }
-        | Instr::Load { .. }
-        | Instr::Store { .. }
-        | Instr::Lr { .. }
-        | Instr::Sc { .. }
-        | Instr::Amo { .. }
-        | Instr::Upper { .. }
-        | Instr::Jal { .. }
-        | Instr::Immediate { .. }
-        | Instr::Shift { .. }
-        | Instr::Register { .. }
-        | Instr::System(_) => false,
-    }
-}
-
 /// Rule 8: `a` is an LR and `b` the SC that it is paired with.
 pub(crate) fn are_paired(items: &Items, a: &Operation, b: &Operation) -> bool
     ensures { result ≡ spec.paired items.now a.now b.now }
@@ -201,10 +152,4 @@ pub(crate) fn pair_place(items: &Items, sc: &Operation) -> u32
         }
     }
     0
-}
-
-pub(crate) fn is_lr_or_sc(instr: Option<Instr>) -> bool
-    ensures { result ≡ spec.is_lr_or_sc instr }
-{
-    matches!(instr, Some(Instr::Lr { .. } | Instr::Sc { .. }))
 }

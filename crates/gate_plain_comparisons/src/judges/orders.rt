@@ -7,7 +7,6 @@ use super::traces::Traces;
 use anyhow::{Result, bail, ensure};
 use hart::{OpId, Trace};
 use machine_types::MemoryModel;
-use rvwmo_order::plain;
 use std::alloc::Global;
 use std::fs;
 use std::io::Write;
@@ -58,7 +57,7 @@ fn judge_trace(alloc: Global, trace: &Trace, model: MemoryModel) -> Result<usize
 // The trace's completed order, which both bodies find.
 fn completed(alloc: Global, trace: &Trace) -> Result<Vec<OpId>> {
     let order = trace_operations::completed(alloc, trace)?;
-    let plain = plain::completed(alloc, trace)?;
+    let plain = gate_plain_checker::completed(alloc, trace)?;
     ensure!(order == plain, "completed orders differ");
     Ok(order)
 }
@@ -83,6 +82,6 @@ fn compare_each(
 // Fails where the two bodies answer differently.
 fn compare(alloc: Global, trace: &Trace, order: &[OpId], model: MemoryModel) -> Result<()> {
     let indexed = rvwmo_order::check_model(alloc, trace, order, model);
-    let plain = plain::check_model(alloc, trace, order, model);
+    let plain = gate_plain_checker::check_model(alloc, trace, order, model);
     are_alike(&indexed, &plain)
 }

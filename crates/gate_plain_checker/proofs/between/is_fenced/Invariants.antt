@@ -1,0 +1,11 @@
+use Rattle.std.proofs.Common.{◌≡◌, length}
+use Rattle.std.specs.List.{list_any}
+use Rattle.memory_model.specs.Dependencies.{between}
+use Rattle.memory_model.specs.Rules.{fences}
+use Rattle.gate_plain_checker.proofs.between.is_fenced.Given as goal
+
+abbrev pub invariant-loop-item : goal.invariant-loop-item
+invariant-loop-item l = list_any (λ m. fences m.instr l.a.kind l.b.kind) (between l.items l.a l.b) ≡ list_any (λ m. fences m.instr l.a.kind l.b.kind) l.rest
+
+abbrev pub decreases-loop-item : goal.decreases-loop-item
+decreases-loop-item l = length l.rest

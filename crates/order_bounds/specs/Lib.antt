@@ -1,0 +1,5 @@
+pub mod Rules
+pub mod Carried
+pub mod Passed
+pub mod Touched
+pub mod Bounds

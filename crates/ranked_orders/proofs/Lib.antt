@@ -1,0 +1,5 @@
+pub mod Behind
+pub mod Kept
+pub mod LastStores
+pub mod Ranks
+pub mod Words

@@ -1,9 +1,0 @@
-use Rattle.std.proofs.Common.{◌≡◌, length}
-use Rattle.memory_model.specs.Traces.{is_distinct}
-use Rattle.rvwmo_order.proofs.plain.orders.is_distinct.Given as goal
-
-abbrev pub invariant-loop-rest : goal.invariant-loop-rest
-invariant-loop-rest l = is_distinct l.order ≡ is_distinct l.rest
-
-abbrev pub decreases-loop-rest : goal.decreases-loop-rest
-decreases-loop-rest l = length l.rest
