@@ -10,7 +10,7 @@ use thiserror::Error;
 
 /// Apply the events of the file `script` to a machine that begins with the file `image`, which has bare
 /// words where `raw` is set, and else is an ELF file.
-#[derive(Clone, Copy, Debug, PartialEq, Eq)]
+#[derive(Clone, Copy)]
 pub struct Replay<'a> {
     pub raw: bool,
     /// Under which the machine runs.
@@ -20,7 +20,7 @@ pub struct Replay<'a> {
 }
 
 /// The machine that the words name. Its numbers are as they were given: no machine need be of that size.
-#[derive(Clone, Copy, Debug, PartialEq, Eq)]
+#[derive(Clone, Copy)]
 pub struct MachineOptions {
     /// How many harts the machine has.
     pub harts: u32,
@@ -38,7 +38,7 @@ pub struct MachineOptions {
 
 /// Run the file `image` with a thread for each hart, and write the events that happened into the file
 /// `journal` as a script. The image has bare words where `raw` is set, and else is an ELF file.
-#[derive(Clone, Copy, Debug, PartialEq, Eq)]
+#[derive(Clone, Copy)]
 pub struct Run<'a> {
     pub raw: bool,
     pub machine: MachineOptions,
@@ -49,7 +49,7 @@ pub struct Run<'a> {
 }
 
 /// Replay, and tell of each event what it did.
-#[derive(Clone, Copy, Debug, PartialEq, Eq)]
+#[derive(Clone, Copy)]
 pub struct Explain<'a> {
     pub replay: Replay<'a>,
     /// End before the first event that changes nothing.
@@ -59,7 +59,7 @@ pub struct Explain<'a> {
 }
 
 /// Replay, and draw what happened as a picture.
-#[derive(Clone, Copy, Debug, PartialEq, Eq)]
+#[derive(Clone, Copy)]
 pub struct Chart<'a> {
     pub replay: Replay<'a>,
     /// The address of the line whose messages alone are drawn, as it was given.
@@ -68,7 +68,7 @@ pub struct Chart<'a> {
 
 /// Find every end that the machine can bring the program of the file `image` to, which has bare words
 /// where `raw` is set, and else is an ELF file.
-#[derive(Clone, Copy, Debug, PartialEq, Eq)]
+#[derive(Clone, Copy)]
 pub struct Explore<'a> {
     pub raw: bool,
     pub machine: MachineOptions,
@@ -98,7 +98,7 @@ impl Explore<'_> {
 }
 
 /// Explore until no store waits, and show words of memory at the ends.
-#[derive(Debug, Drop)]
+#[derive(Drop)]
 pub struct Show<'a> {
     pub explore: Explore<'a>,
     /// The words, one at least, in the order of their asking: each an address or a symbol, as it was given.
@@ -106,7 +106,7 @@ pub struct Show<'a> {
 }
 
 /// Judge the order of the trace in the file `trace`, or its messages.
-#[derive(Clone, Copy, Debug, PartialEq, Eq)]
+#[derive(Clone, Copy)]
 pub struct Check<'a> {
     /// Judge the messages in place of the order.
     pub messages: bool,
@@ -116,7 +116,7 @@ pub struct Check<'a> {
 }
 
 /// What the program is to do.
-#[derive(Debug, Drop)]
+#[derive(Drop)]
 pub enum Settings<'a> {
     Replay(Replay<'a>),
     Run(Run<'a>),
