@@ -1,5 +1,5 @@
 -- Which words of memory are to be shown, as the kit's matches have them.
-use Rattle.std.proofs.Common.{◌≡◌, ◌≢◌, ◌∙◌, ◌∷◌, arith, Bor, List, [], false, true, length, refl, None, Option, Some, ap, codes, map, option_map, subst, sym}
+use Rattle.std.proofs.Common.{◌≡◌, ◌≢◌, ◌∙◌, ◌∷◌, arith, Bor, List, [], false, true, length, refl, None, Option, Some, ap, codes, map, option_map, sym}
 use Rattle.std.specs.Prelude.{◌==◌, unwrap_or}
 use Rattle.std.proofs.lemmas.Bool.{eqb-true, false≢true}
 use Rattle.clap.proofs.WalkLemmas.{raw_values-rows}

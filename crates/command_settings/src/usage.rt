@@ -49,13 +49,16 @@ fn settings_by<'a, S: AsStr>(
             agreeing(command, settings)
         }
         // The usage asks for a subcommand and its files, so that the parse has refused such words.
-        None => {
-            let missing = command.error(
-                ErrorKind::MissingSubcommand,
-                "replay, explain, chart, run, explore or check is wanted",
-            )?;
-            Err(SettingsError::Usage(missing))
-        }
+        None => Err(without_subcommand(command)),
+    }
+}
+
+/// The refusal of words that name no subcommand.
+fn without_subcommand(command: &mut Command<'_>) -> SettingsError {
+    let wanted = "replay, explain, chart, run, explore or check is wanted";
+    match command.error(ErrorKind::MissingSubcommand, wanted) {
+        Ok(error) => SettingsError::Usage(error),
+        Err(AllocError) => SettingsError::NoMemory,
     }
 }
 

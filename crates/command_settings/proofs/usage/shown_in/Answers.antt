@@ -1,7 +1,6 @@
-use Rattle.std.proofs.Common.{◌≡◌, ◌∙◌, ◌++◌, Bor, List, ap, map, sym}
+use Rattle.std.proofs.Common.{◌∙◌, ◌++◌, Bor, List, ap, map}
 use Rattle.clap.specs.Words.{Text, found_of}
 use Rattle.command_settings.proofs.Shown.{none_shown, rows_there, some_shown}
-use Rattle.command_settings.specs.Settings.{shown_in}
 use Rattle.command_settings.proofs.usage.shown_in.Goals as goal
 use Rattle.command_settings.proofs.usage.shown_in.Goals.{in-Some-get_strs+in_ok-extend_from_slice, in_default-get_strs}
 

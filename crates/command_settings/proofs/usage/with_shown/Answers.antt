@@ -1,4 +1,4 @@
-use Rattle.std.proofs.Common.{◌≡◌, ◌≢◌, ◌∙◌, Bor, List, [], ap, map, refl, rules, subst, sym}
+use Rattle.std.proofs.Common.{◌≢◌, ◌∙◌, Bor, List, [], ap, map, subst, sym}
 use Rattle.clap.specs.Words.{Text}
 use Rattle.command_settings.proofs.Shown.{none_of, some_of}
 use Rattle.command_settings.specs.Settings.{IsMeant}
