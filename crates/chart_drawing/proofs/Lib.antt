@@ -1,2 +1,4 @@
+pub mod Appending
+pub mod Arrows
 pub mod Escaping
 pub mod Opening

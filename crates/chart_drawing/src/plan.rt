@@ -2,7 +2,7 @@
 ghost use Rattle.std.specs.Prelude.{◌≡◌, ◌≤◌};
 
 /// How large a chart is. Places are in pixels from its upper left corner.
-#[derive(Clone, Copy, Debug)]
+#[derive(Clone, Copy)]
 pub struct Plan {
     pub harts: u64,
     /// How many lines of memory have a bar in each cache's lane.

@@ -9,7 +9,7 @@ use machine_types::Channel;
 use std::alloc::AllocError;
 
 /// What a cache holds of a line. Each has its own colour and pattern.
-#[derive(Clone, Copy, Debug, PartialEq, Eq)]
+#[derive(Clone, Copy, Debug)]
 pub enum Hold {
     Nothing,
     Branch,
@@ -59,7 +59,7 @@ fn open_class(channel: Channel) -> &'static [u8]
 
 /// A message between a hart's cache and the manager: on which line it was sent, and on which it was taken,
 /// if it was.
-#[derive(Clone, Copy, Debug, PartialEq, Eq)]
+#[derive(Clone, Copy)]
 pub struct Message {
     pub channel: Channel,
     pub hart: u8,

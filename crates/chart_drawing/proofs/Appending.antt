@@ -1,0 +1,13 @@
+-- What several calls append, one behind another.
+use Rattle.std.proofs.Common.{◌≡◌, ◌∙◌, ℕ, List, ◌++◌, Result, ap, append_assoc}
+use Rattle.std.specs.Result.{OnOk}
+use Rattle.std.proofs.lemmas.Result.{on_ok_weaker}
+
+pub two_append : {T E : Type 0} (r : Result T E) (s a b x y : List ℕ) → a ≡ s ++ x → OnOk r (b ≡ a ++ y) → OnOk r (b ≡ s ++ (x ++ y))
+two_append r s a b x y first last = on_ok_weaker r (λ is. is ∙ (ap (λ (l : List ℕ). l ++ y) first ∙ append_assoc s x y)) last
+
+pub three_append : {T E : Type 0} (r : Result T E) (s a b c x y z : List ℕ) → a ≡ s ++ x → b ≡ a ++ y → OnOk r (c ≡ b ++ z) → OnOk r (c ≡ s ++ (x ++ (y ++ z)))
+three_append r s a b c x y z first second last = two_append r s a c x (y ++ z) first (two_append r a b c y z second last)
+
+pub four_append : {T E : Type 0} (r : Result T E) (s a b c d x y z w : List ℕ) → a ≡ s ++ x → b ≡ a ++ y → c ≡ b ++ z → OnOk r (d ≡ c ++ w) → OnOk r (d ≡ s ++ (x ++ (y ++ (z ++ w))))
+four_append r s a b c d x y z w first second third last = two_append r s a d x (y ++ (z ++ w)) first (three_append r a b c d y z w second third last)
