@@ -50,7 +50,7 @@ impl RunError {
 }
 
 /// Why a thread stopped before the run was over.
-#[derive(Clone, Copy, PartialEq, Eq)]
+#[derive(Clone, Copy)]
 pub(crate) enum Fault {
     NoMemory,
     BadEvent,
@@ -78,16 +78,5 @@ impl From<Fault> for RunError {
             Fault::NoMemory => RunError::NoMemory,
             Fault::BadEvent => RunError::BadEvent,
         }
-    }
-}
-
-impl From<AllocError> for Fault {
-    ghost use Rattle.std.specs.Prelude.{◌≡◌};
-    ghost use Rattle.host_threads.specs.declared.report.Fault.TheVariants as fault;
-
-    ghost from_gives = { λ _ e. e ≡ fault.NoMemory };
-
-    fn from(_error: AllocError) -> Self {
-        Fault::NoMemory
     }
 }

@@ -17,7 +17,7 @@ use machine_types::{Channel, Config, Event, Outcome};
 use rv32_exec::Action;
 use std::marker::Model;
 
-#[derive(Clone, Copy, PartialEq, Eq)]
+#[derive(Clone, Copy)]
 enum Place {
     Step,
     Drain,

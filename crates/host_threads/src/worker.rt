@@ -99,11 +99,20 @@ impl<'a, L: Ledger, T: Turn + Drop> Worker<'a, L, T> {
         }
     }
 
-    /// Takes turns until the run is over for this hart.
+    /// Takes turns until the run is over for this hart, and hands back what it had to itself.
     pub(crate) fn run<R: Wait, G: Gate>(mut self, rt: &R, gate: &G) -> Done<L>
         ensures { HandsBack (common_of self.entry) result }
     {
-        let mut fault = None;
+        let fault = self.take_turns(rt, gate);
+        self.halt();
+        let (seat, share) = self.port.end();
+        Done { seat, share, fault }
+    }
+
+    // Takes turns until the run is over for this hart. Why it stopped before, where it did.
+    fn take_turns<R: Wait, G: Gate>(&mut self, rt: &R, gate: &G) -> Option<Fault>
+        ensures { self.new.common ≡ self.old.common }
+    {
         let mut turn = 0u64;
         for _ in rt.forever() {
             if self.common.stop.load(Ordering::SeqCst) {
@@ -114,16 +123,13 @@ impl<'a, L: Ledger, T: Turn + Drop> Worker<'a, L, T> {
             match self.take_turn(rt, gate) {
                 Ok(true) => {}
                 Ok(false) => break,
-                Err(error) => {
+                Err(fault) => {
                     self.stop_all();
-                    fault = Some(error);
-                    break;
+                    return Some(fault);
                 }
             }
         }
-        self.halt();
-        let (seat, share) = self.port.end();
-        Done { seat, share, fault }
+        None
     }
 
     // Lets the gate see the published lengths.
