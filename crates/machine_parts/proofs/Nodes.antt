@@ -64,8 +64,8 @@ pub opened : (image : Initial) (config : Config) (id entry : ℕ) (hart : Hart) 
     → record { hart = hart; output = output; reserved = reserved; buffer = buffer; cache = cache; queues = queues } ≡ opening_node image config id
 opened image config id entry hart output reserved buffer cache queues e h o r b c q = rw (h, e, o, r, b, c, q) refl
 
-pub opened_state : (image lent : Initial) (config : Config) (nodes : List Node) (memory : List LineData) (notes : Notes) (trace : History) (size bytes : ℕ)
-    → nodes ≡ map (opening_node lent config) (range_with_len 0 config.harts) → lent ≡ trace.image → memory ≡ lines_of config.line image.bytes
-    → notes ≡ directory.opening config.harts (size / bytes) → size ≡ length image.bytes → bytes ≡ length_of config.line → trace ≡ history.opening image config.line config.harts
+pub opened_state : (image : Initial) (config : Config) (nodes : List Node) (memory : List LineData) (notes : Notes) (trace : History)
+    → nodes ≡ map (opening_node image config) (range_with_len 0 config.harts) → memory ≡ lines_of config.line image.bytes
+    → notes ≡ directory.opening config.harts (length image.bytes / length_of config.line) → trace ≡ history.opening image config.line config.harts
     → record { views = record { config = config; nodes = nodes; memory = memory; notes = notes; changes = 0 }; trace = trace } ≡ opening_of image config
-opened_state image lent config nodes memory notes trace size bytes ns l m d s b t = rw (ns, l, m, d, s, b, t) refl
+opened_state image config nodes memory notes trace n m d t = rw (n, m, d, t) refl
