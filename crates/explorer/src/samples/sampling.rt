@@ -26,7 +26,7 @@ pub trait SampleWatch {
 }
 
 /// How a program is sampled.
-#[derive(Clone, Copy, Debug, PartialEq, Eq)]
+#[derive(Clone, Copy)]
 pub struct Sampling {
     pub runs: u64,
     /// What the runs are drawn from: the same seed gives the same runs.
