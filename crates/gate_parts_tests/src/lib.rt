@@ -1,5 +1,4 @@
-//! Tests of the machine's parts, of what instructions are and do, of harts, of a trace's lists, of the board by which
-//! threads meet and of searches over states, apart from them, so that none of them is proved a second time for its tests.
+//! Tests of the machine's parts, apart from them, so that none of them is proved a second time for its tests.
 #![tactic(auto)]
 
 #[cfg(test)]
@@ -9,30 +8,12 @@ mod cache;
 #[cfg(test)]
 mod channels;
 #[cfg(test)]
-mod combining;
-#[cfg(test)]
-mod decoding;
-#[cfg(test)]
-mod drawing;
-#[cfg(test)]
-mod executing;
-#[cfg(test)]
-mod loading;
-#[cfg(test)]
 mod memory;
 #[cfg(test)]
 mod messages;
 #[cfg(test)]
-mod names;
-#[cfg(test)]
 mod notes;
-#[cfg(test)]
-mod recording;
 #[cfg(test)]
 mod reserving;
 #[cfg(test)]
-mod running;
-#[cfg(test)]
 mod same;
-#[cfg(test)]
-mod searching;

@@ -1,5 +1,5 @@
-//! Tests of schedules, and of what small programs come to on the flat machine, apart from both, so that neither is proved a
-//! second time for its tests.
+//! Tests of schedules, of searches over states, and of what small programs come to on the flat machine, apart from them, so
+//! that none of them is proved a second time for its tests.
 #![tactic(auto)]
 
 #[cfg(test)]
@@ -12,5 +12,7 @@ mod programs;
 mod realising;
 #[cfg(test)]
 mod same;
+#[cfg(test)]
+mod searching;
 #[cfg(test)]
 mod shortening;

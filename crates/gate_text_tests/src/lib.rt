@@ -1,15 +1,11 @@
-//! Tests of the texts of instructions, traces, scripts, event streams, remarks and progress, and of the
-//! checker, apart from them, so that none of them is proved a second time for its tests.
+//! Tests of the texts of instructions, traces, scripts and event streams, and of the checker, apart from them, so that none
+//! of them is proved a second time for its tests.
 #![tactic(auto)]
 
 #[cfg(test)]
 mod judging;
 #[cfg(test)]
 mod pieces;
-#[cfg(test)]
-mod progress;
-#[cfg(test)]
-mod remarks;
 #[cfg(test)]
 mod same;
 #[cfg(test)]
