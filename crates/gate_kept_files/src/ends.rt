@@ -3,7 +3,7 @@
 //! the files `explored` and `allowed` is what stands behind `rvtl explore`.
 
 use crate::said::Said;
-use std::alloc::{AllocError, Global};
+use crate::texts::words_of;
 use std::fs;
 use std::io::{self, Write};
 use std::rt::Files;
@@ -36,30 +36,30 @@ fn explore_lines<R: Files + Threads + Wait + Sync + AllocGlobal, W: Write>(
     let lines = fs::read_to_string(rt, file)?;
     let mut said = Said::nothing(rt.alloc());
     for asked in lines.lines() {
-        explore(rt, asked, &mut said)?;
-        print(asked, &said, printed, out)?;
+        explore(rt, asked, printed, &mut said, out)?;
     }
     Ok(())
 }
 
-fn explore<R: Files + Threads + Wait + Sync + AllocGlobal>(
+fn explore<R: Files + Threads + Wait + Sync + AllocGlobal, W: Write>(
+    rt: &R,
+    asked: &str,
+    printed: Printed,
+    said: &mut Said,
+    out: &mut W,
+) -> io::Result<()> {
+    ask(rt, asked, said)?;
+    print(asked, said, printed, out)
+}
+
+fn ask<R: Files + Threads + Wait + Sync + AllocGlobal>(
     rt: &R,
     asked: &str,
     said: &mut Said,
 ) -> io::Result<()> {
-    let words = words_of(rt.alloc(), asked)?;
+    let words = words_of(rt.alloc(), &["rvtl", "explore"], asked)?;
     said.ask_of_system(rt, &words);
     Ok(())
-}
-
-fn words_of(alloc: Global, asked: &str) -> Result<Vec<&str>, AllocError> {
-    let mut words = Vec::new(alloc);
-    words.push("rvtl")?;
-    words.push("explore")?;
-    for word in asked.split_whitespace() {
-        words.push(word)?;
-    }
-    Ok(words)
 }
 
 fn print<W: Write>(asked: &str, said: &Said, printed: Printed, out: &mut W) -> io::Result<()> {

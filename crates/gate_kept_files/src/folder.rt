@@ -18,6 +18,17 @@ struct Held {
     is_broken: bool,
 }
 
+impl Held {
+    fn of(alloc: Global, name: &str, bytes: &[u8], is_broken: bool) -> Result<Held, AllocError> {
+        let name = String::from_str(alloc, name)?;
+        Ok(Held {
+            name,
+            bytes: bytes.to_vec(alloc)?,
+            is_broken,
+        })
+    }
+}
+
 /// Files in memory, the newest of which counts where several have a name.
 #[derive(Drop)]
 pub struct Folder {
@@ -58,11 +69,8 @@ impl Folder {
     }
 
     fn hold(&mut self, name: &str, bytes: &[u8], is_broken: bool) -> Result<(), AllocError> {
-        self.held.push(Held {
-            name: String::from_str(self.alloc, name)?,
-            bytes: bytes.to_vec(self.alloc)?,
-            is_broken,
-        })?;
+        let file = Held::of(self.alloc, name, bytes, is_broken)?;
+        self.held.push(file)?;
         Ok(())
     }
 

@@ -9,6 +9,7 @@ mod rows;
 mod said;
 mod spoiled;
 mod spoiling;
+mod texts;
 mod transcripts;
 mod verdicts;
 

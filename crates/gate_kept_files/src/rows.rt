@@ -6,6 +6,7 @@
 //! wrong variant of the flat machine is refuted by a script.
 
 use crate::said::Said;
+use crate::texts::lines_with;
 use anyhow::{Result, bail, ensure};
 use gate_plain_comparisons::{Case, Counts, Differences, ImageKind, Played, refute_all, show};
 use std::fs;
@@ -14,6 +15,9 @@ use std::rt::Files;
 use std::str::from_utf8;
 use std::sync::Wait;
 use std::thread::Threads;
+
+/// How the lines of a trace begin, by their kinds.
+static KINDS: [&str; 6] = ["T ", "I ", "R ", "P ", "M ", "H "];
 
 /// Asks the command line for a command that takes an image and a script.
 fn ask<'a, R: Files + Threads + Wait + Sync + AllocGlobal>(
@@ -51,15 +55,6 @@ fn printed_difference(said: &Said, case: &Case) -> Option<&'static str> {
     None
 }
 
-/// How many lines begin with these words.
-fn lines_with(text: &str, words: &str) -> usize {
-    let mut count = 0usize;
-    for line in text.lines() {
-        count = count.saturating_add(usize::from(line.starts_with(words)));
-    }
-    count
-}
-
 /// What the command line printed of a case, where it succeeded and told nothing.
 fn printed<'a>(name: &str, said: &'a Said) -> Result<&'a str> {
     let told = from_utf8(&said.err)?;
@@ -67,27 +62,28 @@ fn printed<'a>(name: &str, said: &'a Said) -> Result<&'a str> {
     Ok(from_utf8(&said.out)?)
 }
 
-/// The command line has drawn a case, with an arrow for each message that the kept trace says was sent.
-fn is_drawn(name: &str, case: &Case, said: &Said) -> Result<()> {
-    let arrows = lines_with(printed(name, said)?, "<polyline ");
-    let sent = lines_with(from_utf8(&case.trace)?, "M s ");
+/// As many lines are printed of one kind as the kept trace has of another.
+fn are_as_many(name: &str, printed: &str, kind: &str, trace: &str, wanted: &str) -> Result<()> {
+    let (lines, kept) = (lines_with(printed, kind), lines_with(trace, wanted));
     ensure!(
-        arrows == sent,
-        "{name}: {arrows} arrows for {sent} messages"
+        lines == kept,
+        "{name}: {lines} lines {kind}for {kept} of the trace"
     );
     Ok(())
+}
+
+/// The command line has drawn a case, with an arrow for each message that the kept trace says was sent.
+fn is_drawn(name: &str, case: &Case, said: &Said) -> Result<()> {
+    let picture = printed(name, said)?;
+    are_as_many(name, picture, "<polyline ", from_utf8(&case.trace)?, "M s ")
 }
 
 /// The command line has explained a case, with as many lines of each kind as the kept trace has.
 fn is_explained(name: &str, case: &Case, said: &Said) -> Result<()> {
     let stream = printed(name, said)?;
     let trace = from_utf8(&case.trace)?;
-    for kind in ["T ", "I ", "R ", "P ", "M ", "H "] {
-        let (lines, wanted) = (lines_with(stream, kind), lines_with(trace, kind));
-        ensure!(
-            lines == wanted,
-            "{name}: {lines} lines {kind}for {wanted} of the trace"
-        );
+    for kind in &KINDS {
+        are_as_many(name, stream, kind, trace, kind)?;
     }
     Ok(())
 }

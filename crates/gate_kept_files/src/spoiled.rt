@@ -5,7 +5,7 @@
 use crate::folder::{Backed, Folder};
 use crate::said::Said;
 use crate::spoiling::{cut, reset};
-use anyhow::{Result, bail, ensure};
+use anyhow::{Result, bail};
 use gate_plain_comparisons::{ImageKind, Numbers};
 use std::fs;
 use std::rt::Files;
@@ -21,7 +21,7 @@ static REPLAYS: [(&str, &str, ImageKind); 5] = [
     ("sum.elf", "sum.script", ImageKind::Elf),
 ];
 
-const TRACES: [&str; 3] = [
+static TRACES: [&str; 3] = [
     "random-11-00115.trace",
     "random-11-00156.trace",
     "random-11-00173.trace",
@@ -77,9 +77,20 @@ fn spoil_replay<R: Files + Threads + Wait + Sync + AllocGlobal>(
         name: "script",
         bytes: &script,
     };
-    let words = words_for(kind);
-    spoil(rt, words, image, script, stream, said)?;
-    spoil(rt, words, script, image, stream, said)
+    spoil_each(rt, words_for(kind), image, script, stream, said)
+}
+
+/// Spoils each of two files beside the other.
+fn spoil_each<R: Files + Threads + Wait + Sync + AllocGlobal>(
+    rt: &R,
+    words: &[&str],
+    one: File<'_>,
+    other: File<'_>,
+    stream: &mut Numbers,
+    said: &mut Said,
+) -> Result<()> {
+    spoil(rt, words, one, other, stream, said)?;
+    spoil(rt, words, other, one, stream, said)
 }
 
 fn spoil_trace<R: Files + Threads + Wait + Sync + AllocGlobal>(
@@ -107,28 +118,28 @@ fn spoil<R: Files + Threads + Wait + Sync + AllocGlobal>(
     said: &mut Said,
 ) -> Result<()> {
     for tenths in 0..10 {
-        run_over(rt, words, file.name, cut(file.bytes, tenths), other, said)?;
+        let bytes = cut(file.bytes, tenths);
+        run_over(rt, words, File { bytes, ..file }, other, said)?;
     }
     let mut spoiled = Vec::new(rt.alloc());
     for _ in 0..RESETS {
         reset(&mut spoiled, file.bytes, stream)?;
-        run_over(rt, words, file.name, spoiled.as_slice(), other, said)?;
+        let bytes = spoiled.as_slice();
+        run_over(rt, words, File { bytes, ..file }, other, said)?;
     }
     Ok(())
 }
 
-/// Runs the program over the bytes of a spoiled file, beside one that stays as it is.
+/// Runs the program over a spoiled file, beside one that stays as it is.
 fn run_over<R: Files + Threads + Wait + Sync + AllocGlobal>(
     rt: &R,
     words: &[&str],
-    name: &str,
-    bytes: &[u8],
+    spoiled: File<'_>,
     other: File<'_>,
     said: &mut Said,
 ) -> Result<()> {
     let mut folder = Folder::new(rt.alloc());
-    folder.put(other.name, other.bytes)?;
-    folder.put(name, bytes)?;
+    put_all(&mut folder, &[other, spoiled])?;
     let mut files = Backed {
         folder: &mut folder,
         rt,
@@ -137,22 +148,32 @@ fn run_over<R: Files + Threads + Wait + Sync + AllocGlobal>(
     ends_well(said)
 }
 
-/// The program's status is one of its five. Where it is neither a success nor a verdict, the one line that it
-/// tells is its own, and nothing else is printed.
-fn ends_well(said: &Said) -> Result<()> {
-    match said.status {
-        0 => ensure!(!said.out.is_empty(), "a success printed nothing"),
-        3 => ensure!(said.out.starts_with(b"fault "), "no fault was printed"),
-        1 | 2 | 4 => {
-            ensure!(is_named_line(&said.err), "no line of the program's");
-            ensure!(
-                said.out.is_empty(),
-                "something was printed before a failure"
-            );
-        }
-        status => bail!("no such status: {status}"),
+fn put_all(folder: &mut Folder, files: &[File<'_>]) -> Result<()> {
+    for file in files {
+        folder.put(file.name, file.bytes)?;
     }
     Ok(())
+}
+
+fn ends_well(said: &Said) -> Result<()> {
+    if let Some(objection) = objection_to(said) {
+        bail!("status {}: {objection}", said.status);
+    }
+    Ok(())
+}
+
+/// What is to be objected to an end. The program's status is one of its five. Where it is neither a success nor a
+/// verdict, the one line that it tells is its own, and nothing else is printed.
+fn objection_to(said: &Said) -> Option<&'static str> {
+    match said.status {
+        0 if said.out.is_empty() => Some("a success printed nothing"),
+        3 if !said.out.starts_with(b"fault ") => Some("no fault was printed"),
+        0 | 3 => None,
+        1 | 2 | 4 if !is_named_line(&said.err) => Some("no line of the program's"),
+        1 | 2 | 4 if !said.out.is_empty() => Some("something was printed before a failure"),
+        1 | 2 | 4 => None,
+        _ => Some("no such status"),
+    }
 }
 
 /// One line, which begins with the program's name.

@@ -82,15 +82,21 @@ fn play_lines<R: Files + Threads + Wait + Sync + AllocGlobal>(
     text: &str,
 ) -> Result<usize> {
     let mut stage = Stage::new(rt.alloc());
-    let mut number = 0usize;
-    for line in text.lines() {
-        number = number.saturating_add(1);
+    play_on(&mut stage, rt, name, text)?;
+    Ok(stage.commands)
+}
+
+fn play_on<R: Files + Threads + Wait + Sync + AllocGlobal>(
+    stage: &mut Stage,
+    rt: &R,
+    name: &str,
+    text: &str,
+) -> Result<()> {
+    for (index, line) in text.lines().enumerate() {
+        let number = index.saturating_add(1);
         stage
             .play(rt, line)
             .context(format_args!("{name}: line {number}: {line}"))?;
     }
-    stage
-        .conclude()
-        .context(format_args!("{name}: at the end"))?;
-    Ok(stage.commands)
+    stage.conclude().context(format_args!("{name}: at the end"))
 }

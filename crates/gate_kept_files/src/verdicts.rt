@@ -18,10 +18,21 @@ pub fn judge_all<R: Files + Threads + Wait + Sync + AllocGlobal, W: Write>(
     let cases = fs::read_to_string(rt, "verdicts")?;
     let mut said = Said::nothing(rt.alloc());
     for case in cases.lines() {
-        let (name, model) = case.split_once(' ').context("no case")?;
-        judge(rt, name, model, &mut said)?;
-        print(name, &said, out)?;
+        judge_case(rt, case, &mut said, out)?;
     }
+    Ok(())
+}
+
+/// Judges the case of a line, and prints its verdict.
+fn judge_case<R: Files + Threads + Wait + Sync + AllocGlobal, W: Write>(
+    rt: &R,
+    case: &str,
+    said: &mut Said,
+    out: &mut W,
+) -> Result<()> {
+    let (name, model) = case.split_once(' ').context("no case")?;
+    judge(rt, name, model, said)?;
+    print(name, said, out)?;
     Ok(())
 }
 

@@ -27,7 +27,9 @@ impl Write for Breaking {
             None => buf.len(),
         };
         self.taken.extend_from_slice(&buf[..count])?;
-        self.room = self.room.map(|room| room.saturating_sub(count));
+        if let Some(room) = &mut self.room {
+            *room = room.saturating_sub(count);
+        }
         Ok(count)
     }
 

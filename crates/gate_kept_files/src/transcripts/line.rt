@@ -30,18 +30,6 @@ pub fn halves(text: &str) -> (&str, &str) {
     text.split_once(' ').unwrap_or((text, ""))
 }
 
-/// The words of a command line.
-pub fn words_of(alloc: Global, asked: &str) -> Result<Vec<&str>> {
-    let mut words = Vec::new(alloc);
-    words.push("rvtl")?;
-    for word in asked.split(' ') {
-        if !word.is_empty() {
-            words.push(word)?;
-        }
-    }
-    Ok(words)
-}
-
 /// Adds a line's text to a file.
 pub fn add_text(alloc: Global, file: &mut Vec<u8>, mark: char, text: &str) -> Result<()> {
     match mark {
@@ -79,14 +67,25 @@ fn add_words(file: &mut Vec<u8>, words: &str) -> Result<()> {
 /// The text with what each escape stands for in its place.
 pub fn unescaped(alloc: Global, text: &str) -> Result<String> {
     let mut made = String::new(alloc);
+    add_unescaped(&mut made, text)?;
+    Ok(made)
+}
+
+fn add_unescaped(made: &mut String, text: &str) -> Result<()> {
     let mut pieces = text.split('\\');
     made.push_str(pieces.next().unwrap_or(""))?;
     for piece in pieces {
-        let mut letters = piece.chars();
-        made.push(escaped(letters.next())?)?;
-        made.push_str(letters.as_str())?;
+        add_escaped(made, piece)?;
     }
-    Ok(made)
+    Ok(())
+}
+
+/// Adds what stands behind a backslash.
+fn add_escaped(made: &mut String, piece: &str) -> Result<()> {
+    let mut letters = piece.chars();
+    made.push(escaped(letters.next())?)?;
+    made.push_str(letters.as_str())?;
+    Ok(())
 }
 
 /// What the letter behind a backslash stands for.

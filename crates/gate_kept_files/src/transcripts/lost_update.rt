@@ -2,6 +2,7 @@
 
 use crate::folder::{Backed, Folder};
 use crate::said::Said;
+use crate::texts::lines_with;
 use anyhow::{Result, ensure};
 use std::alloc::{AllocError, Global};
 use std::rt::Files;
@@ -17,13 +18,20 @@ pub fn needs_each<R: Files + Threads + Wait + Sync + AllocGlobal>(
 ) -> Result<()> {
     ensure!(loses_an_update(rt, files, script)?, "no update is lost");
     for index in 1..script.lines().count() {
-        let fewer = without(rt.alloc(), script, index)?;
-        ensure!(
-            !loses_an_update(rt, files, &fewer)?,
-            "the event {index} isn't needed"
-        );
+        let is_needed = !loses_without(rt, files, script, index)?;
+        ensure!(is_needed, "the event {index} isn't needed");
     }
     Ok(())
+}
+
+fn loses_without<R: Files + Threads + Wait + Sync + AllocGlobal>(
+    rt: &R,
+    files: &mut Folder,
+    script: &str,
+    index: usize,
+) -> Result<bool> {
+    let fewer = without(rt.alloc(), script, index)?;
+    loses_an_update(rt, files, &fewer)
 }
 
 /// Whether the script brings both harts to their ends, behind which both stores have left, and both loads read 0.
@@ -32,8 +40,8 @@ fn loses_an_update<R: Files + Threads + Wait + Sync + AllocGlobal>(
     files: &mut Folder,
     script: &str,
 ) -> Result<bool> {
-    let mut said = Said::nothing(rt.alloc());
     files.put("script", script.as_bytes())?;
+    let mut said = Said::nothing(rt.alloc());
     let words = ["rvtl", "replay", "lost_update.elf", "script"];
     said.ask(rt, &words, &mut Backed { folder: files, rt });
     has_lost_an_update(&said)
@@ -42,12 +50,9 @@ fn loses_an_update<R: Files + Threads + Wait + Sync + AllocGlobal>(
 fn has_lost_an_update(said: &Said) -> Result<bool> {
     let has_ended = said.err.as_slice() == b"hart 0: exit 0\nhart 1: exit 0\n".as_slice();
     let trace = from_utf8(&said.out)?;
-    let performed = trace.lines().filter(|line| line.starts_with("P ")).count();
-    let zeros = trace
-        .lines()
-        .filter(|line| line.contains(" 0x0002a303 0x00000000 "))
-        .count();
-    Ok(has_ended && performed == 4 && zeros == 2)
+    // Each load is one word of code, and the number behind it is what it read.
+    let zeros = trace.matches(" 0x0002a303 0x00000000 ").count();
+    Ok(has_ended && lines_with(trace, "P ") == 4 && zeros == 2)
 }
 
 /// The script's lines but for one.
@@ -55,9 +60,14 @@ fn without(alloc: Global, script: &str, left_out: usize) -> Result<String, Alloc
     let mut rest = String::new(alloc);
     for (index, event) in script.lines().enumerate() {
         if index != left_out {
-            rest.push_str(event)?;
-            rest.push('\n')?;
+            add_line(&mut rest, event)?;
         }
     }
     Ok(rest)
+}
+
+fn add_line(text: &mut String, line: &str) -> Result<(), AllocError> {
+    text.push_str(line)?;
+    text.push('\n')?;
+    Ok(())
 }

@@ -1,13 +1,15 @@
 //! Where a transcript is played: its files, and what its last commands said.
 
 use super::breaking::Breaking;
-use super::line::{Line, add_text, halves, unescaped, words_of};
+use super::line::{Line, add_text, halves, unescaped};
 use super::lost_update::needs_each;
 use super::stream::{Stream, exchanged};
 use crate::folder::{Backed, Folder};
 use crate::said::{Said, run};
-use anyhow::{Context, Result, bail, ensure};
+use crate::texts::words_of;
+use anyhow::{Result, bail, ensure};
 use std::alloc::Global;
+use std::fmt::Debug;
 use std::mem::swap;
 use std::rt::Files;
 use std::str::from_utf8;
@@ -114,7 +116,7 @@ impl Stage {
         text: &str,
     ) -> Result<()> {
         self.begin_command(mark, text)?;
-        let words = words_of(self.alloc, &self.asked)?;
+        let words = words_of(self.alloc, &["rvtl"], &self.asked)?;
         let mut files = Backed {
             folder: &mut self.files,
             rt,
@@ -202,16 +204,14 @@ impl Stage {
     }
 
     fn tell_status(&mut self, text: &str) -> Result<()> {
-        let status = self.said.status;
-        ensure!(status == text.parse::<u8>()?, "there came {status}");
+        came(&self.said.status, &text.parse::<u8>()?)?;
         self.told.has_status = true;
         Ok(())
     }
 
     fn tell_writes(&mut self, text: &str) -> Result<()> {
-        let writes = self.files.writes;
-        ensure!(writes == text.parse::<usize>()?, "there came {writes}");
-        self.told.writes = writes;
+        came(&self.files.writes, &text.parse::<usize>()?)?;
+        self.told.writes = self.files.writes;
         Ok(())
     }
 
@@ -220,8 +220,7 @@ impl Stage {
             Some(remark) => remark.as_str(),
             None => "",
         };
-        ensure!(remark == told, "there came {remark:?}");
-        Ok(())
+        came(&remark, &told)
     }
 
     fn needs_each<R: Files + Threads + Wait + Sync + AllocGlobal>(
@@ -233,7 +232,7 @@ impl Stage {
         needs_each(rt, &mut self.files, from_utf8(&script)?)
     }
 
-    /// Runs the last command again, over a standard output that breaks.
+    /// The last command ends as it should over a standard output that breaks.
     fn interrupt<R: Files + Threads + Wait + Sync + AllocGlobal>(
         &mut self,
         rt: &R,
@@ -259,33 +258,41 @@ impl Stage {
         rt: &R,
         room: Option<usize>,
     ) -> Result<()> {
-        let mut out = Breaking::new(self.alloc, room);
-        self.repeat(rt, &mut out)
-            .context(format_args!("where it takes {room:?} bytes"))?;
+        let mut said = Said::nothing(self.alloc);
+        self.repeat(rt, room, &mut said)?;
         let first = self.said.out.get(..room.unwrap_or(self.said.out.len()));
-        let are_first = first == Some(out.taken.as_slice());
-        ensure!(are_first, "other bytes where it takes {room:?}");
+        let are_first = first == Some(said.out.as_slice());
+        let has_told = said.err.as_slice() == b"rvtl: cannot write\n".as_slice();
+        ensure!(
+            are_first && has_told && said.status == 1,
+            "it ends otherwise where it takes {room:?} bytes: status {}",
+            said.status
+        );
         Ok(())
     }
 
+    /// Runs the last command again, over a standard output that breaks.
     fn repeat<R: Files + Threads + Wait + Sync + AllocGlobal>(
         &mut self,
         rt: &R,
-        out: &mut Breaking,
+        room: Option<usize>,
+        said: &mut Said,
     ) -> Result<()> {
-        let mut err = Vec::new(self.alloc);
-        let words = words_of(self.alloc, &self.asked)?;
         self.files.repeat_command();
+        let words = words_of(self.alloc, &["rvtl"], &self.asked)?;
         let mut files = Backed {
             folder: &mut self.files,
             rt,
         };
-        let status = run(rt, &words, &mut files, out, &mut err);
-        let has_told = err.as_slice() == b"rvtl: cannot write\n".as_slice();
-        ensure!(
-            status == 1 && has_told,
-            "it ends otherwise: status {status}"
-        );
+        let mut out = Breaking::new(self.alloc, room);
+        said.status = run(rt, &words, &mut files, &mut out, &mut said.err);
+        said.out = out.taken;
         Ok(())
     }
+}
+
+/// What came is what is told.
+fn came<T: PartialEq + Debug>(came: &T, told: &T) -> Result<()> {
+    ensure!(came == told, "there came {came:?}");
+    Ok(())
 }
