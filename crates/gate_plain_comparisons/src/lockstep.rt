@@ -94,6 +94,26 @@ fn last_entry(trace: &Trace, hart: u8) -> Option<(u32, &Retired)> {
     Some((length.checked_sub(1)?, entry))
 }
 
+/// The flat event of an event with this outcome, and how often it happens. A step that retires is left aside.
+fn flat_events_of(event: Event, outcome: Outcome) -> (FlatEvent, u32) {
+    match (event, outcome) {
+        (Event::Step { hart }, Outcome::Stopped(_)) => (FlatEvent::Step { hart }, 1),
+        (Event::Drain { hart, word }, Outcome::Drained) => (FlatEvent::Drain { hart, word }, 1),
+        (Event::Local { hart, count }, Outcome::Retired) => (FlatEvent::Step { hart }, count),
+        _ => (FlatEvent::Step { hart: 0 }, 0),
+    }
+}
+
+fn flat_at_reset(
+    alloc: Global,
+    image: &Image,
+    config: Config,
+    variant: Variant,
+) -> Result<FlatMachine> {
+    let copy = image.try_copy(alloc)?;
+    Ok(FlatMachine::new(alloc, copy, config, variant)?)
+}
+
 impl Lockstep {
     /// Both at reset.
     pub fn at_reset(
@@ -104,8 +124,7 @@ impl Lockstep {
         failures: Failures,
     ) -> Result<Lockstep> {
         let written = Written::at_reset(alloc, &image)?;
-        let copy = image.try_copy(alloc)?;
-        let flat = FlatMachine::new(alloc, copy, config, variant)?;
+        let flat = flat_at_reset(alloc, &image, config, variant)?;
         let machine = Machine::new(alloc, image, config)?;
         Ok(Lockstep {
             machine,
@@ -173,20 +192,24 @@ impl Lockstep {
         true
     }
 
+    /// In what a hart of the machine differs from that of the flat machine.
+    fn difference_at(&self, hart: usize) -> Option<&'static str> {
+        let views = self.machine.views();
+        match self.flat.node(hart) {
+            Some(flat) => difference_of(&flat, &views, self.machine.trace(), hart),
+            None if hart < views.harts() => Some("a hart differs"),
+            None => None,
+        }
+    }
+
     /// Compares all but what was retired and performed earlier, and memory that wasn't written just now.
     fn compares(&self) -> Option<&'static str> {
-        let views = self.machine.views();
-        let trace = self.machine.trace();
         for hart in 0..MAX_HARTS as usize {
-            if let Some(flat) = self.flat.node(hart) {
-                if let Some(difference) = difference_of(&flat, &views, trace, hart) {
-                    return Some(difference);
-                }
-            } else if hart < views.harts() {
-                return Some("a hart differs");
+            if let Some(difference) = self.difference_at(hart) {
+                return Some(difference);
             }
         }
-        let (order, flat) = (trace.performed(), self.flat.performed());
+        let (order, flat) = (self.machine.trace().performed(), self.flat.performed());
         if order.len() != flat.len() || order.last() != flat.last() {
             return Some("the performed order differs");
         }
@@ -228,10 +251,7 @@ impl Lockstep {
             (Event::Step { hart }, Outcome::Retired | Outcome::Exited(_)) => {
                 (self.retires(hart, access)?, 1)
             }
-            (Event::Step { hart }, Outcome::Stopped(_)) => (FlatEvent::Step { hart }, 1),
-            (Event::Drain { hart, word }, Outcome::Drained) => (FlatEvent::Drain { hart, word }, 1),
-            (Event::Local { hart, count }, Outcome::Retired) => (FlatEvent::Step { hart }, count),
-            _ => (FlatEvent::Step { hart: 0 }, 0),
+            _ => flat_events_of(event, outcome),
         };
         self.written.performed(self.machine.trace().performed());
         if !self.shows(flat, count, outcome) {

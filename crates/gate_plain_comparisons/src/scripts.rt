@@ -7,4 +7,5 @@ mod play;
 
 pub use case::Case;
 pub use flat::{refute_all, show};
+pub use machines::Playable;
 pub use play::{Differences, Played};

@@ -17,7 +17,7 @@ const TRACES: usize = 24;
 
 /// The logs of machines with a wrong meaning each: those of the right machine, changed by hand into what such
 /// a machine would say.
-const WRONG: [&str; 3] = [
+static WRONG: [&str; 3] = [
     "grant_before_all_acks",
     "data_with_each_grant",
     "grant_without_data_after_a_probe",
@@ -86,22 +86,45 @@ impl Judged {
 
     // Judges the log with one entry left out, doubled, exchanged with the next, or changed.
     fn judge_changed(&mut self, alloc: Global, log: &[Logged], index: usize) -> Result<()> {
-        let Some(entry) = log.get(index).copied() else {
+        let Some(entry) = log.get(index) else {
             return Ok(());
         };
         let before = &log[..index];
         let behind = &log[index + 1..];
+        self.judge_moved(alloc, before, *entry, behind)?;
+        self.judge_others(alloc, before, *entry, behind)
+    }
+
+    // Judges the log with the entry left out, doubled or exchanged with the next.
+    fn judge_moved(
+        &mut self,
+        alloc: Global,
+        before: &[Logged],
+        entry: Logged,
+        behind: &[Logged],
+    ) -> Result<()> {
         self.judge_joined(alloc, before, &[], behind)?;
         self.judge_joined(alloc, before, &[entry, entry], behind)?;
-        if let Some((next, others)) = behind.split_first() {
-            self.judge_joined(alloc, before, &[*next, entry], others)?;
+        match behind.split_first() {
+            Some((next, others)) => self.judge_joined(alloc, before, &[*next, entry], others),
+            None => Ok(()),
         }
+    }
+
+    // Judges the log with another entry in the place of one.
+    fn judge_others(
+        &mut self,
+        alloc: Global,
+        before: &[Logged],
+        entry: Logged,
+        behind: &[Logged],
+    ) -> Result<()> {
         self.judge_joined(alloc, before, &[changes::of_other_kind(entry)], behind)?;
         self.judge_joined(alloc, before, &[changes::of_other_hart(entry)], behind)?;
-        if let Some(other) = changes::with_other_permission(entry) {
-            self.judge_joined(alloc, before, &[other], behind)?;
+        match changes::with_other_permission(entry) {
+            Some(other) => self.judge_joined(alloc, before, &[other], behind),
+            None => Ok(()),
         }
-        Ok(())
     }
 
     fn judge_joined(
@@ -112,9 +135,9 @@ impl Judged {
         behind: &[Logged],
     ) -> Result<()> {
         self.log.clear();
-        self.log.extend_from_slice(before)?;
-        self.log.extend_from_slice(between)?;
-        self.log.extend_from_slice(behind)?;
+        for part in &[before, between, behind] {
+            self.log.extend_from_slice(part)?;
+        }
         match judge(alloc, &self.log)? {
             LogVerdict::Lawful => self.lawful = self.lawful.saturating_add(1),
             LogVerdict::Unlawful { rule, .. } => self.count_broken(rule),

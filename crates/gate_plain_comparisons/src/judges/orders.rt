@@ -17,9 +17,9 @@ static FILES: [(&str, usize); 3] = [("rows", 74), ("programs", 200), ("shapes", 
 
 /// Judges each file, and says how many orders were judged alike.
 pub fn judge_files<R: Files + AllocGlobal, W: Write>(rt: &R, out: &mut W) -> Result<()> {
-    for (name, traces) in FILES {
+    for (name, traces) in &FILES {
         let bytes = fs::read(rt, name)?;
-        let orders = judge_file(rt.alloc(), name, &bytes, traces)?;
+        let orders = judge_file(rt.alloc(), name, &bytes, *traces)?;
         writeln!(out, "{name}: {traces} traces, {orders} orders judged alike")?;
     }
     Ok(())

@@ -34,7 +34,7 @@ const RIVAL: u32 = 0x8000_0110;
 ///     amoadd.w t2, t0, (a3)
 ///     fence rw, rw
 ///     j 1b
-const PROGRAM: [u32; 20] = [
+static PROGRAM: [u32; 20] = [
     0x8000_0637,
     0x1006_0693,
     0x1106_0713,
@@ -115,7 +115,9 @@ fn play(lockstep: &mut Lockstep, events: u32) -> Result<Counts> {
         }
     }
     let counts = lockstep.counts;
-    ensure!(counts.successes > 0, "no SC succeeds");
-    ensure!(counts.failures > 0, "no SC fails for no reason");
+    ensure!(
+        counts.successes > 0 && counts.failures > 0,
+        "no SC succeeds, or none fails for no reason: {counts}"
+    );
     Ok(counts)
 }

@@ -2,7 +2,8 @@
 
 use super::views::is_same_view;
 use crate::images::{ImageKind, image_of};
-use anyhow::{Context, Result, bail, ensure};
+use crate::scripts::Playable;
+use anyhow::{Context, Result, ensure};
 use coherent_machine::Machine;
 use elf_loader::Image;
 use gate_plain_machine::PlainMachine;
@@ -12,7 +13,7 @@ use std::alloc::Global;
 use trace_text::write_trace;
 
 /// Loads the word at 0x80000100 and stores 1 to it, for ever.
-const PROGRAM: [u32; 5] = [
+static PROGRAM: [u32; 5] = [
     0x8000_0637,
     0x0010_0693,
     0x1006_2703,
@@ -43,19 +44,15 @@ pub struct Pair {
 impl Pair {
     pub fn at_reset(alloc: Global, model: MemoryModel) -> Result<Pair> {
         let config = config_of(model)?;
-        let plain = PlainMachine::new(alloc, image_of_words(alloc, &PROGRAM)?, config)?;
-        Ok(Pair {
-            plain,
-            coherent: Machine::new(alloc, image_of_words(alloc, &PROGRAM)?, config)?,
-        })
+        let plain = at_reset(alloc, config)?;
+        let coherent = at_reset(alloc, config)?;
+        Ok(Pair { plain, coherent })
     }
 
     /// The event's outcome, which is to be the same of both machines.
     pub fn apply(&mut self, event: Event) -> Result<Outcome> {
-        let Ok(expected) = self.plain.apply(event) else {
-            bail!("{event:?} is refused");
-        };
-        let outcome = self.coherent.apply(event)?;
+        let expected = self.plain.happen(event)?;
+        let outcome = self.coherent.happen(event)?;
         ensure!(
             outcome == expected,
             "{event:?}: {outcome:?} for {expected:?}"
@@ -71,18 +68,25 @@ impl Pair {
             && is_same_view(&self.plain, &views, 1, word)
     }
 
-    /// Whether the texts of both traces, and what the harts put out, are the same.
-    pub fn has_one_trace(self, alloc: Global) -> Result<bool> {
-        let expected = self.plain.into_parts()?.context("a trace")?;
-        is_one(alloc, &expected, &self.coherent.into_parts())
+    /// The texts of both traces, and what the harts put out, are the same.
+    pub fn end_alike(self, alloc: Global) -> Result<()> {
+        let Pair { plain, coherent } = self;
+        are_alike(alloc, &plain.ended()?, &coherent.ended()?)
     }
+}
+
+fn at_reset<M: Playable>(alloc: Global, config: Config) -> Result<M> {
+    let image = image_of_words(alloc, &PROGRAM)?;
+    M::at_reset(alloc, image, config)
 }
 
 /// A trace, and what the harts put out.
 type Parts = (Trace, Vec<Vec<u32>>);
 
-fn is_one(alloc: Global, expected: &Parts, parts: &Parts) -> Result<bool> {
-    Ok(has_one_text(alloc, &expected.0, &parts.0)? && parts.1 == expected.1)
+fn are_alike(alloc: Global, expected: &Parts, parts: &Parts) -> Result<()> {
+    let has_one_text = has_one_text(alloc, &expected.0, &parts.0)?;
+    ensure!(has_one_text && parts.1 == expected.1, "traces differ");
+    Ok(())
 }
 
 fn text_of(alloc: Global, trace: &Trace) -> Result<Vec<u8>> {

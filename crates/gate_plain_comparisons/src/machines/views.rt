@@ -23,11 +23,11 @@ fn is_same_buffer(node: &NodeView<'_>, buffer: &StoreBuffer, word: u32) -> bool 
 /// As many messages wait in each queue, and the first of them are the same.
 fn are_same_queues(node: &NodeView<'_>, queues: &Queues) -> bool {
     let mut are_same = true;
-    for channel in CHANNELS {
-        let queue = node.queue(channel);
+    for channel in &CHANNELS {
+        let queue = node.queue(*channel);
         are_same = are_same
-            && queue.len() == queues.len(channel)
-            && queue.first().copied() == queues.front(channel);
+            && queue.len() == queues.len(*channel)
+            && queue.first().copied() == queues.front(*channel);
     }
     are_same
 }

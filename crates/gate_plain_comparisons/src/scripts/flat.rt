@@ -12,7 +12,7 @@ use trace_text::Script;
 
 /// Wrong flat meanings, by the names of the scripts that refute them. In these scripts no line moves but on
 /// demand, so an SC may be asked to succeed exactly where the flat machine's reservation stands.
-const WRONG: [(&str, Variant); 5] = [
+static WRONG: [(&str, Variant); 5] = [
     ("only-writes-end", Variant::OnlyWritesEnd),
     ("no-rivals", Variant::NoRivals),
     ("asks-buffer-first", Variant::AsksBufferFirst),

@@ -26,7 +26,7 @@ impl Playable for PlainMachine {
     fn happen(&mut self, event: Event) -> Result<Outcome> {
         match self.apply(event) {
             Ok(outcome) => Ok(outcome),
-            Err(refusal) => bail!("{refusal:?}"),
+            Err(refusal) => bail!("{event:?}: {refusal:?}"),
         }
     }
 
