@@ -38,10 +38,7 @@ fn adopt<R: Eprint>(
         answer => return Ok(answer?),
     }
     show_machine(&mut pages.after, machine)?;
-    ensure!(
-        pages.after == pages.before,
-        "a batch wanted memory and changed the machine"
-    );
+    pages.are_unchanged("a batch")?;
     Ok(machine.adopt(0, batch)?)
 }
 
@@ -60,11 +57,7 @@ fn adopt_once<R: Eprint>(
         "a batch is adopted again"
     );
     show_machine(&mut pages.after, machine)?;
-    ensure!(
-        pages.after == pages.expected,
-        "a batch differs from its event"
-    );
-    Ok(())
+    pages.are_expected("a machine")
 }
 
 /// A machine adopts a batch of hart 0, and it is committed to a fabric.

@@ -8,17 +8,23 @@ use std::rt::Files;
 use std::{fs, io};
 use trace_text::{Script, read_script};
 
-/// Bare words, a script, and the texts that it is to give.
+/// The texts that a script is to give.
 #[derive(Drop)]
-pub struct Case {
-    words: Vec<u8>,
-    pub config: Config,
-    pub script: Script,
+pub struct Kept {
     /// A line for each event.
     pub outcomes: Vec<u8>,
     pub trace: Vec<u8>,
     /// A line for each hart.
     pub ends: Vec<u8>,
+}
+
+/// Bare words, a script, and what it is to give.
+#[derive(Drop)]
+pub struct Case {
+    words: Vec<u8>,
+    pub config: Config,
+    pub script: Script,
+    pub kept: Kept,
 }
 
 /// The file of a case with this ending.
@@ -27,27 +33,49 @@ fn file<R: Files + AllocGlobal>(rt: &R, name: &str, ending: &str) -> io::Result<
     fs::read(rt, path.as_str())
 }
 
+fn script_of<R: Files + AllocGlobal>(rt: &R, name: &str) -> Result<Script> {
+    let text = file(rt, name, "script")?;
+    match read_script(rt.alloc(), &text) {
+        Ok(script) => Ok(script),
+        Err(fault) => bail!("{fault:?}"),
+    }
+}
+
+fn config_of(script: &Script) -> Result<Config> {
+    let Script {
+        harts,
+        sets,
+        ways,
+        line,
+        ..
+    } = script;
+    Config::new(*harts, *sets, *ways, *line, MemoryModel::Rvwmo).context("a configuration")
+}
+
+impl Kept {
+    fn read<R: Files + AllocGlobal>(rt: &R, name: &str) -> io::Result<Kept> {
+        let outcomes = file(rt, name, "outcomes")?;
+        let trace = file(rt, name, "trace")?;
+        let ends = file(rt, name, "err")?;
+        Ok(Kept {
+            outcomes,
+            trace,
+            ends,
+        })
+    }
+}
+
 impl Case {
     pub fn read<R: Files + AllocGlobal>(rt: &R, name: &str) -> Result<Case> {
-        let script = file(rt, name, "script")?;
-        let script = match read_script(rt.alloc(), &script) {
-            Ok(script) => script,
-            Err(fault) => bail!("{fault:?}"),
-        };
+        let script = script_of(rt, name)?;
+        let config = config_of(&script)?;
+        let words = file(rt, name, "bin")?;
+        let kept = Kept::read(rt, name)?;
         Ok(Case {
-            words: file(rt, name, "bin")?,
-            config: Config::new(
-                script.harts,
-                script.sets,
-                script.ways,
-                script.line,
-                MemoryModel::Rvwmo,
-            )
-            .context("a configuration")?,
+            words,
+            config,
             script,
-            outcomes: file(rt, name, "outcomes")?,
-            trace: file(rt, name, "trace")?,
-            ends: file(rt, name, "err")?,
+            kept,
         })
     }
 

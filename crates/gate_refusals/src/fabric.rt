@@ -131,7 +131,7 @@ fn apply_all<L: Ledger, R: Eprint>(
     ensures shares { length shares.new.items ≡ length shares.old.items }
 {
     let events = case.script.events.as_slice();
-    let outcomes = from_utf8(&case.outcomes)?;
+    let outcomes = from_utf8(&case.kept.outcomes)?;
     for (event, kept) in events.iter().zip(outcomes.lines()) {
         let length = fabric.journal().len();
         let outcome = apply(rt, *event, fabric, shares, pages)?;
@@ -172,10 +172,7 @@ fn apply<L: Ledger, R: Eprint>(
         answer => return Ok(answer?),
     }
     show_fabric(&mut pages.after, fabric, shares)?;
-    ensure!(
-        pages.after == pages.before,
-        "a fabric: {event:?} wanted memory and changed something"
-    );
+    pages.are_unchanged("an event of a fabric")?;
     Ok(fabric.apply(event, &mut shares[worker])?)
 }
 
@@ -197,10 +194,7 @@ fn commit<L: Ledger, R: Eprint>(
         answer => return Ok(answer),
     }
     show_fabric(&mut pages.after, fabric, shares)?;
-    ensure!(
-        pages.after == pages.before,
-        "a fabric: a batch wanted memory and changed something"
-    );
+    pages.are_unchanged("a batch of a fabric")?;
     Ok(fabric.commit(batch, &mut shares[worker]))
 }
 
@@ -215,27 +209,26 @@ fn commit_twice<L: Ledger, R: Eprint>(
 ) -> Result<()>
     ensures shares { length shares.new.items ≡ length shares.old.items }
 {
-    let count = u32::try_from(batch.entries().len())?;
-    let local = [Event::Local { hart: 0, count }];
     let first = commit(rt, batch, fabric, shares, pages)?;
     ensure!(first == Ok(Outcome::Retired), "a batch isn't committed");
-    ensure!(
-        fabric.journal() == local.as_slice(),
-        "a batch is journalled as another event"
-    );
+    is_local(fabric.journal(), batch)?;
     let second = commit(rt, batch, fabric, shares, pages)?;
     ensure!(
         second == Err(AdoptError::Stale),
         "a batch is committed again"
     );
+    is_local(fabric.journal(), batch)?;
     show_machine(&mut pages.after, fabric.machine())?;
+    pages.are_expected("a fabric")
+}
+
+/// The journal has the event `Local` of the batch's instructions alone.
+fn is_local(journal: &[Event], batch: &Batch) -> Result<()> {
+    let count = u32::try_from(batch.entries().len())?;
+    let local = [Event::Local { hart: 0, count }];
     ensure!(
-        pages.after == pages.expected,
-        "a committed batch differs from its event"
-    );
-    ensure!(
-        fabric.journal() == local.as_slice(),
-        "a stale batch is journalled"
+        journal == local.as_slice(),
+        "a batch is journalled as another event or twice"
     );
     Ok(())
 }

@@ -7,6 +7,7 @@ use coherent_machine::{ApplyError, Machine, ReplayError, replay};
 use hart::Status;
 use hart_ends::put_end;
 use machine_types::{Event, Outcome};
+use std::alloc::Global;
 use std::io::{self, Write};
 use std::str::from_utf8;
 use trace_text::write_trace;
@@ -34,10 +35,7 @@ pub fn apply<R: Eprint>(
         answer => return Ok(answer?),
     }
     show_machine(&mut pages.after, machine)?;
-    ensure!(
-        pages.after == pages.before,
-        "{event:?} wanted memory and changed the machine"
-    );
+    pages.are_unchanged("an event")?;
     Ok(machine.apply(event)?)
 }
 
@@ -59,7 +57,7 @@ fn apply_all<R: Eprint>(
     pages: &mut Pages,
 ) -> Result<()> {
     let events = case.script.events.as_slice();
-    let outcomes = from_utf8(&case.outcomes)?;
+    let outcomes = from_utf8(&case.kept.outcomes)?;
     ensure!(
         events.len() == outcomes.lines().count(),
         "an outcome is missing"
@@ -87,22 +85,31 @@ pub fn replay_events<R: Eprint + AllocGlobal>(
     case: &Case,
     pages: &mut Pages,
 ) -> Result<()> {
-    let events = case.script.events.as_slice();
-    let image = case.image(rt.alloc())?;
-    match replay(rt.alloc(), image, case.config, events) {
+    match replay_on(rt.alloc(), case)? {
         Ok(machine) => return compare_ends(case, machine, &mut pages.after),
-        Err(ReplayError::NoMemory) => eprintln!(rt; "replay: a machine at reset wants memory")?,
-        Err(ReplayError::Event(index, ApplyError::NoMemory)) => {
-            ensure!(index < events.len(), "replay: no event {index}");
-            eprintln!(rt; "replay: event {index} wants memory")?;
-        }
-        Err(error) => bail!("replay: {error:?}"),
+        Err(error) => tell_want(rt, case.script.events.as_slice().len(), error)?,
     }
-    let image = case.image(rt.alloc())?;
-    match replay(rt.alloc(), image, case.config, events) {
+    match replay_on(rt.alloc(), case)? {
         Ok(machine) => compare_ends(case, machine, &mut pages.after),
         Err(error) => bail!("replay, once more: {error:?}"),
     }
+}
+
+fn replay_on(alloc: Global, case: &Case) -> Result<Result<Machine, ReplayError>> {
+    let image = case.image(alloc)?;
+    Ok(replay(alloc, image, case.config, case.script.events.as_slice()))
+}
+
+/// Tells that a replay of so many events wants memory; any other error is a failure.
+fn tell_want<R: Eprint>(rt: &R, events: usize, error: ReplayError) -> Result<()> {
+    match error {
+        ReplayError::NoMemory => eprintln!(rt; "replay: a machine at reset wants memory")?,
+        ReplayError::Event(index, ApplyError::NoMemory) if index < events => {
+            eprintln!(rt; "replay: event {index} wants memory")?;
+        }
+        error => bail!("replay: {error:?}"),
+    }
+    Ok(())
 }
 
 /// Compares the trace and the harts' ends with the kept ones.
@@ -111,11 +118,14 @@ pub fn compare_ends(case: &Case, machine: Machine, page: &mut Vec<u8>) -> Result
     page.clear();
     write_trace(&trace, page)?;
     ensure!(
-        page.as_slice() == case.trace.as_slice(),
+        page.as_slice() == case.kept.trace.as_slice(),
         "the trace differs"
     );
     write_ends(page, trace.statuses(), &outputs)?;
-    ensure!(page.as_slice() == case.ends.as_slice(), "the ends differ");
+    ensure!(
+        page.as_slice() == case.kept.ends.as_slice(),
+        "the ends differ"
+    );
     Ok(())
 }
 
