@@ -12,8 +12,8 @@ use Rattle.machine_types.specs.declared.model.MemoryModel.{MemoryModel}
 use Rattle.machine_types.specs.declared.model.MemoryModel.TheVariants.{Rvwmo, Ztso}
 use Rattle.state_search.specs.declared.findings.Extent.{Extent}
 use Rattle.state_search.specs.declared.findings.Extent.TheVariants as extent
-use Rattle.window_machine.specs.declared.left_out.Reach.{Reach}
-use Rattle.window_machine.specs.declared.left_out.Reach.TheVariants as reach
+use Rattle.window_search.specs.declared.left_out.Reach.{Reach}
+use Rattle.window_search.specs.declared.left_out.Reach.TheVariants as reach
 
 -- ---- outcomes
 

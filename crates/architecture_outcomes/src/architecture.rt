@@ -3,7 +3,7 @@
 use crate::outcome::Outcome;
 use machine_types::MemoryModel;
 use state_search::Extent;
-use window_machine::Reach;
+use window_search::Reach;
 
 /// What is found of a program under a memory model. What is known of it stands at `explore_architecture`.
 #[derive(Drop)]

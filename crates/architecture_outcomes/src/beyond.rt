@@ -5,7 +5,7 @@ ghost use Rattle.std.specs.List.Sorted.{IsStrictlySortedBy};
 ghost use Rattle.std.specs.Ordering.{on};
 ghost use Rattle.architecture_outcomes.specs.Outcomes.{HasEachMachineEnd, IsDecided, IsWitnessed, TellOnce, end_of, ends_of, tells};
 ghost use Rattle.flat_machine.specs.Onward.{are_aligned};
-ghost use Rattle.window_machine.specs.Openings.{NeverOpens};
+ghost use Rattle.window_search.specs.Openings.{NeverOpens};
 ghost use Rattle.witnesses.specs.Witnesses.{IsWitness};
 ghost use Rattle.explorer.specs.WordOrders.{ending_cmp};
 
@@ -15,7 +15,7 @@ use explorer::words_of;
 use machine_types::Config;
 use state_search::Watch;
 use std::alloc::{AllocError, Global};
-use window_machine::{Allowed, Reach, search};
+use window_search::{Allowed, Reach, search};
 use witnesses::Witness;
 
 /// What a search under the memory model finds; nothing, where memory ends in it.

@@ -5,7 +5,7 @@ ghost use Rattle.std.specs.Ordering.{on};
 ghost use Rattle.architecture_outcomes.specs.Outcomes.{IsDecided, IsWitnessed, TellsEachEnd, end_of};
 ghost use Rattle.architecture_outcomes.specs.Visited.{AreMachineStates, TellsEnd};
 ghost use Rattle.flat_model.specs.Flat.{Flat};
-ghost use Rattle.window_machine.specs.Openings.{NeverOpens};
+ghost use Rattle.window_search.specs.Openings.{NeverOpens};
 ghost use Rattle.explorer.specs.WordOrders.{ending_cmp};
 ghost use Rattle.explorer.specs.Words.{CanShowEach};
 
@@ -17,7 +17,8 @@ use explorer::Exploring;
 use machine_types::Config;
 use state_search::{Extent, Watch};
 use std::alloc::{AllocError, Global};
-use window_machine::{Allowed, Reach, WIDEST};
+use window_machine::WIDEST;
+use window_search::{Allowed, Reach};
 
 /// Tells of a search behind another one what both found.
 #[derive(Drop)]

@@ -27,8 +27,8 @@ use Rattle.explore_command.specs.Asking.{HasProgram, HasUnshown}
 use Rattle.explore_command.specs.Targets.{names_of}
 use Rattle.state_search.specs.declared.findings.Extent.TheVariants.{Complete, LimitMet}
 use Rattle.state_search.specs.declared.findings.Extent.TheVariants as extent
-use Rattle.window_machine.specs.Openings.{NeverOpens}
-use Rattle.window_machine.specs.declared.left_out.Reach.TheVariants as reach
+use Rattle.window_search.specs.Openings.{NeverOpens}
+use Rattle.window_search.specs.declared.left_out.Reach.TheVariants as reach
 use Rattle.explorer.specs.WordOrders.{ending_cmp}
 
 -- what is said to show an outcome does; where the machine's own search is complete, each of its outcomes is told as one of the machine, and each other as the model's alone;

@@ -1,2 +1,1 @@
 pub mod Circles
-mod Openings

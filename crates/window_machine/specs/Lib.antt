@@ -1,4 +1,1 @@
 pub mod Circles
-pub mod LeftOut
-pub mod Openings
-pub mod States

@@ -19,7 +19,10 @@ use trace_operations::accesses::{reads, writes};
 
 /// An access that a hart stands before: its bytes as lanes of the aligned word that they lie in.
 #[derive(Clone, Copy)]
-pub(crate) struct Access {
+pub struct Access {
+    pub instr: Instr,
+    /// Its entry, without what it reads.
+    pub entry: Retired,
     pub kind: Kind,
     pub word: u32,
     /// All bits of its bytes.
@@ -33,7 +36,7 @@ pub(crate) struct Access {
 }
 
 impl Access {
-    fn new(kind: Kind, address: u32, size: Width, operand: u32, instr: &Instr) -> Access {
+    fn new(kind: Kind, address: u32, size: Width, operand: u32, next: &Next) -> Access {
         let shift = 8 * (address % 4);
         let bytes = match size {
             Width::Byte => 0xff,
@@ -41,31 +44,44 @@ impl Access {
             Width::Word => u32::MAX,
         };
         Access {
+            instr: next.instr,
+            entry: next.entry,
             kind,
             word: address & !3,
             lanes: bytes << shift,
             shift,
             operand,
             op: AmoOp::Swap,
-            bits: annotations(instr),
+            bits: annotations(&next.instr),
         }
     }
 
-    /// The access of a plan, where it has one.
-    pub(crate) fn of(plan: &Action, instr: &Instr) -> Option<Access>
-        ensures { (access : spec.Access) → plan.now ≡ action_of_access access → is_some result ≡ is_of_memory access }
+    /// The access that a hart stands before, if it runs and that comes next.
+    pub fn before(image: &Image, hart: &Hart) -> Option<Access> {
+        if !hart.status.is_running() {
+            return None;
+        }
+        match next_of(image, hart) {
+            Ok(next) => Access::of(&next),
+            Err(_) => None,
+        }
+    }
+
+    /// The access of what a hart does next, where it is one.
+    pub(crate) fn of(next: &Next) -> Option<Access>
+        ensures { (access : spec.Access) → next.now.plan ≡ action_of_access access → is_some result ≡ is_of_memory access }
     {
-        match *plan {
-            Action::Load { addr, size } => Some(Access::new(Kind::Load, addr, size, 0, instr)),
+        match next.plan {
+            Action::Load { addr, size } => Some(Access::new(Kind::Load, addr, size, 0, next)),
             Action::Store { addr, size, value } => {
-                Some(Access::new(Kind::Store, addr, size, value, instr))
+                Some(Access::new(Kind::Store, addr, size, value, next))
             }
-            Action::Lr { addr } => Some(Access::new(Kind::Lr, addr, Width::Word, 0, instr)),
+            Action::Lr { addr } => Some(Access::new(Kind::Lr, addr, Width::Word, 0, next)),
             Action::Sc { addr, value } => {
-                Some(Access::new(Kind::Sc, addr, Width::Word, value, instr))
+                Some(Access::new(Kind::Sc, addr, Width::Word, value, next))
             }
             Action::Amo { addr, op, operand } => {
-                let mut access = Access::new(Kind::Amo, addr, Width::Word, operand, instr);
+                let mut access = Access::new(Kind::Amo, addr, Width::Word, operand, next);
                 access.op = op;
                 Some(access)
             }
@@ -83,8 +99,8 @@ impl Access {
     }
 
     /// The entry by which it retires, where it reads this in its lanes.
-    pub(crate) fn entry(&self, entry: &Retired, read: u32) -> Retired {
-        let mut entry = *entry;
+    pub(crate) fn retired(&self, read: u32) -> Retired {
+        let mut entry = self.entry;
         match self.kind {
             Kind::Load | Kind::Lr | Kind::Amo => {
                 entry.loaded = Some((read & self.lanes) >> (self.shift % 32));

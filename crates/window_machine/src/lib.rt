@@ -1,25 +1,24 @@
-//! The outcomes that a memory model allows a program, found by placing the memory operations of its harts in a global
-//! order one after the other. An operation that is fetched and not placed yet waits in its hart's window.
+//! A hart with a window: operations that it has fetched wait there, until each is placed in a global order as a memory
+//! model allows.
 #![tactic(auto)]
 
 mod access;
-mod allowed;
-mod changes;
-mod fetching;
-mod finding;
+mod fetch;
 mod joining;
-mod left_out;
 mod memory;
 mod node;
 mod notes;
 mod placing;
 mod registers;
-mod searching;
-mod states;
-mod table;
+mod rows;
+mod waiting;
 mod waits;
 
-pub use allowed::{Allowed, search};
-pub use left_out::Reach;
-pub use placing::LONGEST_ROW;
+pub use access::Access;
+pub use fetch::Fetch;
+pub use memory::{Patch, Store, image_word, set_word, word_in};
+pub use node::Node;
+pub use notes::{Deed, Note};
+pub use placing::Placed;
+pub use rows::{Course, LONGEST_ROW, go_on};
 pub use waits::WIDEST;

@@ -6,7 +6,7 @@ ghost use Rattle.architecture_outcomes.specs.Outcomes.{end_of};
 ghost use Rattle.architecture_outcomes.specs.Text.{architecture_text};
 ghost use Rattle.exploration_text.specs.Words.{end_text};
 ghost use Rattle.state_search.specs.declared.findings.Extent.TheVariants as extent;
-ghost use Rattle.window_machine.specs.declared.left_out.Reach.TheVariants as reach;
+ghost use Rattle.window_search.specs.declared.left_out.Reach.TheVariants as reach;
 
 use crate::architecture::keeping::keep_outcomes;
 use crate::findings::Findings;
@@ -16,7 +16,7 @@ use command_files::{Fault, Files};
 use exploration_text::{WordName, end_text};
 use state_search::Extent;
 use std::alloc::{AllocError, Global};
-use window_machine::Reach;
+use window_search::Reach;
 
 /// What a search under a memory model found, and what lines call the words of memory.
 #[derive(Drop)]

@@ -7,7 +7,7 @@ use flat_model::HartResult;
 use machine_types::{Config, LineSize, MemoryModel};
 use state_search::Unwatched;
 use std::alloc::Global;
-use window_machine::{Reach, search};
+use window_search::{Reach, search};
 use witnesses::Witness;
 
 /// How many operations of a hart may wait: more than a program here has.
