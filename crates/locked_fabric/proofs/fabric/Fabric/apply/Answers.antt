@@ -55,7 +55,7 @@ pub returns-then-moved-clause-ok : goal.returns-then-moved-clause-ok
 returns-then-moved-clause-ok g c = search rules
 
 pub returns-then-moved-clause-err : goal.returns-then-moved-clause-err
-returns-then-moved-clause-err g c = search rules
+returns-then-moved-clause-err g c = tt
 
 pub returns-then-moved-clause-share : goal.returns-then-moved-clause-share
 returns-then-moved-clause-share g c = search rules
@@ -70,7 +70,7 @@ pub returns-else-moved-clause-ok : goal.returns-else-moved-clause-ok
 returns-else-moved-clause-ok g c = search rules
 
 pub returns-else-moved-clause-err : goal.returns-else-moved-clause-err
-returns-else-moved-clause-err g c = search rules
+returns-else-moved-clause-err g c = tt
 
 pub returns-else-moved-clause-share : goal.returns-else-moved-clause-share
 returns-else-moved-clause-share g c = search rules

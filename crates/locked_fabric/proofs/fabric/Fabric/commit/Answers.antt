@@ -1,4 +1,4 @@
-use Rattle.std.proofs.Common.{◌≡◌, Err, rules}
+use Rattle.std.proofs.Common.{◌≡◌, Err, refl, rules}
 use Rattle.coherent_machine.specs.Adopting.{local_of}
 use Rattle.locked_fabric.specs.FabricState.{FabricState}
 use Rattle.locked_fabric.proofs.Kept.{kept_moved}
@@ -27,16 +27,16 @@ pub returns-clause-retired : goal.returns-clause-retired
 returns-clause-retired g c = rw (← c.self.view_is) (rw c.first.ensures.first at c.in_ok-outcome.ensures.retired)
 
 pub returns-clause-empty : goal.returns-clause-empty
-returns-clause-empty g c = search rules
+returns-clause-empty g c = λ _. rw (← c.self.view_is) (rw c.first.ensures.first at c.in_ok-outcome.ensures.empty)
 
 pub returns-clause-limit : goal.returns-clause-limit
-returns-clause-limit g c = search rules
+returns-clause-limit g c = λ _. rw (← c.self.view_is) (rw c.first.ensures.first at c.in_ok-outcome.ensures.limit)
 
 pub returns-clause-ok : goal.returns-clause-ok
 returns-clause-ok g c = search rules
 
 pub returns-clause-err : goal.returns-clause-err
-returns-clause-err g c = search rules
+returns-clause-err g c = tt
 
 pub returns-clause-share : goal.returns-clause-share
 returns-clause-share g c = search rules
@@ -48,19 +48,19 @@ pub invariant_of-self : goal.invariant_of-self
 invariant_of-self g c = search rules
 
 pub returns-then-is_err-clause-stale : goal.returns-then-is_err-clause-stale
-returns-then-is_err-clause-stale g c = search rules
+returns-then-is_err-clause-stale g c = λ other. absurd (other refl)
 
 pub returns-then-is_err-clause-empty : goal.returns-then-is_err-clause-empty
-returns-then-is_err-clause-empty g c = search rules
+returns-then-is_err-clause-empty g c = λ other. absurd (other refl)
 
 pub returns-then-is_err-clause-limit : goal.returns-then-is_err-clause-limit
-returns-then-is_err-clause-limit g c = search rules
+returns-then-is_err-clause-limit g c = λ other. absurd (other refl)
 
 pub returns-then-is_err-clause-retired : goal.returns-then-is_err-clause-retired
-returns-then-is_err-clause-retired g c = search rules
+returns-then-is_err-clause-retired g c = tt
 
 pub returns-then-is_err-clause-ok : goal.returns-then-is_err-clause-ok
-returns-then-is_err-clause-ok g c = search rules
+returns-then-is_err-clause-ok g c = tt
 
 pub returns-then-is_err-clause-err : goal.returns-then-is_err-clause-err
 returns-then-is_err-clause-err g c = search rules
