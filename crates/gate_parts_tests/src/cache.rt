@@ -22,7 +22,7 @@ const ONE: LineData = LineData::Bytes16([1, 0, 0, 0, 0, 0, 0, 0, 0, 0, 0, 0, 0, 
 const TWO: LineData = LineData::Bytes16([2, 0, 0, 0, 0, 0, 0, 0, 0, 0, 0, 0, 0, 0, 0, 0]);
 
 /// A call of a cache.
-#[derive(Clone, Copy, Debug)]
+#[derive(Clone, Copy)]
 enum Call {
     Want(u32, Grow),
     Grant(u32, Cap, Option<LineData>),
@@ -106,10 +106,12 @@ const DIRTY_ONE: Option<Held> = Some(Held::Trunk {
     bytes: ONE,
 });
 
-/// Plays calls and compares what they answer.
+/// Plays calls and compares what they answer. A wrong answer is told with its call's place.
 fn play(rt: &impl Abort, cache: &mut ClientCache, calls: &[(Call, Answer)]) {
+    let mut place = 0usize;
     for (call, answer) in calls {
-        same_of(rt, ask(rt, cache, *call), *answer, call);
+        same_of(rt, ask(rt, cache, *call), *answer, &place);
+        place = place.wrapping_add(1);
     }
 }
 

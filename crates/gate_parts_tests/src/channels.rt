@@ -61,15 +61,19 @@ fn is_empty(rt: &impl Abort, queues: &mut Queues, channel: Channel) {
     same_of(rt, queues.len(channel), 0, &channel);
 }
 
+fn take(rt: &impl Abort, queues: &mut Queues, act: Act) {
+    match act {
+        Act::Sends(line, body) => send(rt, queues, line, body),
+        Act::SendsMany(count, line, body) => send_many(rt, queues, count, line, body),
+        Act::Takes(line, body) => taken(rt, queues, line, body),
+        Act::Holds(channel, count, has_room) => holds(rt, queues, channel, count, has_room),
+        Act::IsEmpty(channel) => is_empty(rt, queues, channel),
+    }
+}
+
 fn play(rt: &impl Abort, queues: &mut Queues, acts: &[Act]) {
     for act in acts {
-        match *act {
-            Act::Sends(line, body) => send(rt, queues, line, body),
-            Act::SendsMany(count, line, body) => send_many(rt, queues, count, line, body),
-            Act::Takes(line, body) => taken(rt, queues, line, body),
-            Act::Holds(channel, count, has_room) => holds(rt, queues, channel, count, has_room),
-            Act::IsEmpty(channel) => is_empty(rt, queues, channel),
-        }
+        take(rt, queues, *act);
     }
 }
 

@@ -2,7 +2,7 @@
 
 use crate::same::same;
 use backing_memory::Memory;
-use elf_loader::{raw, size_of_kib};
+use elf_loader::{Image, raw, size_of_kib};
 use machine_types::{LineData, LineSize};
 use std::process::Abort;
 
@@ -12,29 +12,25 @@ fn line_of(rt: &impl Abort, memory: &Memory, i: u32) -> LineData {
     memory.line(i)
 }
 
-fn set_short(rt: &impl Abort, memory: &mut Memory, i: u32, bytes: [u8; 16]) {
+/// Makes line `i` these bytes, as many as it has to have.
+fn set(rt: &impl Abort, memory: &mut Memory, i: u32, line: LineData) {
     assert!(rt; i < memory.line_count());
-    let LineData::Bytes16(_) = memory.line(i) else {
-        panic!(rt; "a line of 64 bytes")
-    };
-    memory.set_line(i, LineData::Bytes16(bytes));
+    assert!(rt; line.size() == memory.line(i).size());
+    memory.set_line(i, line);
 }
 
-fn set_long(rt: &impl Abort, memory: &mut Memory, i: u32, bytes: [u8; 64]) {
-    assert!(rt; i < memory.line_count());
-    let LineData::Bytes64(_) = memory.line(i) else {
-        panic!(rt; "a line of 16 bytes")
-    };
-    memory.set_line(i, LineData::Bytes64(bytes));
-}
-
-/// Memory of these first bytes. What was refused, in runs in which one allocation fails, is asked for again.
-fn memory_of(rt: &(impl Abort + AllocGlobal), bytes: &[u8], kib: u32, line: LineSize) -> Memory {
+/// An image of these first bytes. What was refused, in runs in which one allocation fails, is asked for again.
+fn image_of(rt: &(impl Abort + AllocGlobal), bytes: &[u8], kib: u32) -> Image {
     let size = size_of_kib(kib).expect(rt, "a size");
-    let image = match raw(rt.alloc(), bytes, size) {
+    match raw(rt.alloc(), bytes, size) {
         Ok(image) => image,
         Err(_) => raw(rt.alloc(), bytes, size).expect(rt, "words again"),
-    };
+    }
+}
+
+/// Memory of such an image, which is asked for again likewise.
+fn memory_of(rt: &(impl Abort + AllocGlobal), bytes: &[u8], kib: u32, line: LineSize) -> Memory {
+    let image = image_of(rt, bytes, kib);
     match Memory::new(rt.alloc(), &image, line) {
         Ok(memory) => memory,
         Err(_) => Memory::new(rt.alloc(), &image, line).expect(rt, "memory again"),
@@ -51,7 +47,7 @@ fn has_short_lines(rt: &impl Abort, memory: &mut Memory) {
     same(rt, line_of(rt, memory, 1), LineData::Bytes16(SECOND));
     same(rt, line_of(rt, memory, 255), LineData::Bytes16([0; 16]));
     same(rt, line_of(rt, memory, 255).size(), LineSize::Bytes16);
-    set_short(rt, memory, 255, FIRST);
+    set(rt, memory, 255, LineData::Bytes16(FIRST));
     same(rt, line_of(rt, memory, 255), LineData::Bytes16(FIRST));
     same(rt, line_of(rt, memory, 254), LineData::Bytes16([0; 16]));
     same(rt, memory.line_count(), 256);
@@ -71,7 +67,7 @@ fn has_long_lines(rt: &impl Abort, memory: &mut Memory, first: [u8; 64], second:
     same(rt, line_of(rt, memory, 1), LineData::Bytes64(second));
     let last = line_of(rt, memory, 127);
     same(rt, last.as_slice(), [0; 64].as_slice());
-    set_long(rt, memory, 0, second);
+    set(rt, memory, 0, LineData::Bytes64(second));
     same(rt, line_of(rt, memory, 0), LineData::Bytes64(second));
     same(rt, line_of(rt, memory, 1), LineData::Bytes64(second));
 }
@@ -93,6 +89,6 @@ fn lines_of_64_bytes(rt: HostRuntime) {
 #[test]
 fn memory_is_taken_at_making_alone(rt: HostRuntime) {
     let mut memory = memory_of(&rt, &[1, 0, 0, 0], 4, LineSize::Bytes16);
-    set_short(&rt, &mut memory, 3, [7; 16]);
+    set(&rt, &mut memory, 3, LineData::Bytes16([7; 16]));
     same(&rt, line_of(&rt, &memory, 3), LineData::Bytes16([7; 16]));
 }

@@ -14,7 +14,7 @@ const X: u32 = 16;
 const Y: u32 = 32;
 
 /// A message that the manager takes, and what it is to send.
-#[derive(Clone, Copy, Debug)]
+#[derive(Clone, Copy)]
 enum Step {
     /// An Acquire that is granted.
     Granted(u32, u8, Grow, Cap, bool),
@@ -48,17 +48,22 @@ fn granted_by(answer: Acquired) -> Option<Grant> {
     }
 }
 
-fn expect_probes(rt: &impl Abort, answer: &Acquired, cap: Cap, harts: &[u8], step: Step) {
+/// The set has these harts, in this order.
+fn has_harts(rt: &impl Abort, set: &HartSet, harts: &[u8], place: usize) {
+    let mut expected = harts.iter();
+    for hart in set.iter() {
+        same_of(rt, expected.next().copied(), Some(hart), &place);
+    }
+    same_of(rt, expected.next().copied(), None, &place);
+}
+
+fn expect_probes(rt: &impl Abort, answer: &Acquired, cap: Cap, harts: &[u8], place: usize) {
     match answer {
         Acquired::Handled(Sent::Probes(probe, set)) => {
-            same_of(rt, *probe, cap, &step);
-            let mut expected = harts.iter();
-            for hart in set.iter() {
-                same_of(rt, expected.next().copied(), Some(hart), &step);
-            }
-            same_of(rt, expected.next().copied(), None, &step);
+            same_of(rt, *probe, cap, &place);
+            has_harts(rt, set, harts, place);
         }
-        _ => panic!(rt; "{answer:?} at {step:?}"),
+        _ => panic!(rt; "no Probe at {place}"),
     }
 }
 
@@ -130,34 +135,43 @@ fn stands(rt: &impl Abort, directory: &Directory, line: u32) -> Transaction {
     directory.transaction(line)
 }
 
-fn take(rt: &impl Abort, directory: &mut Directory, step: Step) {
+/// Takes the step at this place of its row.
+fn take(rt: &impl Abort, directory: &mut Directory, step: Step, place: usize) {
     match step {
         Step::Granted(line, hart, grow, cap, with_data) => {
             let answer = acquire(rt, directory, line, hart, grow);
             let grant = told(granted_by(answer));
-            same_of(rt, grant, Some((hart, cap, with_data)), &step);
+            same_of(rt, grant, Some((hart, cap, with_data)), &place);
         }
         Step::Probed(line, hart, grow, cap, harts) => {
             let answer = acquire(rt, directory, line, hart, grow);
-            expect_probes(rt, &answer, cap, harts, step);
+            expect_probes(rt, &answer, cap, harts, place);
         }
         Step::Busy(line, hart, grow) => {
             let answer = acquire(rt, directory, line, hart, grow);
-            same_of(rt, answer, Acquired::Busy, &step);
+            same_of(rt, answer, Acquired::Busy, &place);
         }
         Step::ProbeAck(line, hart, change, due) => {
             let sent = told(probe_ack(rt, directory, line, hart, change));
-            same_of(rt, sent, due, &step);
+            same_of(rt, sent, due, &place);
         }
         Step::Release(line, hart) => release(rt, directory, line, hart),
         Step::GrantAck(line) => grant_ack(rt, directory, line),
         Step::Known(line, hart, perm, awaited) => {
             let has = Known { perm, awaited };
-            same_of(rt, known(rt, directory, line, hart), has, &step);
+            same_of(rt, known(rt, directory, line, hart), has, &place);
         }
         Step::Stands(line, transaction) => {
-            same_of(rt, stands(rt, directory, line), transaction, &step);
+            same_of(rt, stands(rt, directory, line), transaction, &place);
         }
+    }
+}
+
+fn take_all(rt: &impl Abort, directory: &mut Directory, steps: &[Step]) {
+    let mut place = 0usize;
+    for step in steps {
+        take(rt, directory, *step, place);
+        place = place.wrapping_add(1);
     }
 }
 
@@ -168,9 +182,7 @@ fn play(rt: &impl Abort, alloc: Global, steps: &[Step]) -> Result<(), Fail> {
         Ok(directory) => directory,
         Err(_) => Directory::new(alloc, 8, 64)?,
     };
-    for step in steps {
-        take(rt, &mut directory, *step);
-    }
+    take_all(rt, &mut directory, steps);
     Ok(())
 }
 

@@ -58,8 +58,9 @@ pub fn realised(
     harts: u32,
     steps: &[FlatEvent],
 ) -> Result<Schedule, Fail> {
+    let config = config_of(harts, 2)?;
     let image = image_of(alloc, words)?;
-    Ok(realise(alloc, image, config_of(harts, 2)?, steps)?)
+    Ok(realise(alloc, image, config, steps)?)
 }
 
 fn is_answer(
@@ -79,8 +80,9 @@ fn comes_so(
     steps: &[FlatEvent],
     ends: &Result<&[End], RealiseError>,
 ) -> Result<bool, Fail> {
+    let config = config_of(of.harts, of.ways)?;
     let image = image_of(alloc, of.words)?;
-    let answer = realise(alloc, image, config_of(of.harts, of.ways)?, steps);
+    let answer = realise(alloc, image, config, steps);
     Ok(is_answer(&answer, ends))
 }
 

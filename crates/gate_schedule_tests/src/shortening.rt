@@ -93,8 +93,8 @@ fn shortened<G: Goal>(
 ) -> Result<Vec<Event>, Fail>
     requires asked { G.CanBeAsked goal.now }
 {
-    let image = image_of(alloc, program.words)?;
     let config = config_of(program.harts, 2)?;
+    let image = image_of(alloc, program.words)?;
     Ok(shorten(alloc, &image, config, events, goal, most_played)?)
 }
 
@@ -138,14 +138,20 @@ fn without(alloc: Global, events: &[Event], left_out: usize) -> Result<Vec<Event
     Ok(rest)
 }
 
+/// The machine to which the events lead.
+fn led_by(alloc: Global, program: Program, events: &[Event]) -> Result<Machine, Fail> {
+    let config = config_of(program.harts, 2)?;
+    let image = image_of(alloc, program.words)?;
+    Ok(replay(alloc, image, config, events)?)
+}
+
 fn leads_there(
     alloc: Global,
     program: Program,
     events: &[Event],
     goal: &HartResults<'_>,
 ) -> Result<bool, Fail> {
-    let image = image_of(alloc, program.words)?;
-    let machine = replay(alloc, image, config_of(program.harts, 2)?, events)?;
+    let machine = led_by(alloc, program, events)?;
     Ok(goal.is_met(&machine)?)
 }
 
