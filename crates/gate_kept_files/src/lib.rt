@@ -1,5 +1,5 @@
 //! The machines, the checker and the command line on kept files: scripts played as kept, traces judged as
-//! kept, the examples played by their scripts and explored, files that are spoiled, and transcripts.
+//! kept, the examples played by their scripts and explored, and files that are spoiled.
 #![tactic(auto)]
 
 mod ends;
@@ -10,14 +10,16 @@ mod said;
 mod spoiled;
 mod spoiling;
 mod texts;
-mod transcripts;
 mod verdicts;
 
 use anyhow::Result;
+pub use folder::{Backed, Folder};
+pub use said::{Said, run};
 use std::io::Write;
 use std::rt::Files;
 use std::sync::Wait;
 use std::thread::Threads;
+pub use texts::{lines_with, words_of};
 
 /// Takes each file, and prints what came of it.
 pub fn take_all<R: Files + Threads + Wait + Sync + AllocGlobal, W: Write>(
@@ -33,5 +35,5 @@ pub fn take_all<R: Files + Threads + Wait + Sync + AllocGlobal, W: Write>(
         out,
         "every spoiled file was taken, judged or refused in one line"
     )?;
-    transcripts::play_all(rt, out)
+    Ok(())
 }

@@ -31,6 +31,7 @@
 //! What a command prints beyond its lines is a difference, but behind a line whose mark is no blank. So are a file that
 //! it writes and a status that no line tells. A file that isn't in memory is the system's, and what commands write stays
 //! in memory.
+#![tactic(auto)]
 
 mod breaking;
 mod line;

@@ -1,13 +1,11 @@
 //! Where a transcript is played: its files, and what its last commands said.
 
-use super::breaking::Breaking;
-use super::line::{Line, add_text, halves, unescaped};
-use super::lost_update::needs_each;
-use super::stream::{Stream, exchanged};
-use crate::folder::{Backed, Folder};
-use crate::said::{Said, run};
-use crate::texts::words_of;
+use crate::breaking::Breaking;
+use crate::line::{Line, add_text, halves, unescaped};
+use crate::lost_update::needs_each;
+use crate::stream::{Stream, exchanged};
 use anyhow::{Result, bail, ensure};
+use gate_kept_files::{Backed, Folder, Said, run, words_of};
 use std::alloc::Global;
 use std::fmt::Debug;
 use std::mem::swap;

@@ -1,9 +1,7 @@
 //! The scripts that lead the program `lost_update.elf` to the loss of an update.
 
-use crate::folder::{Backed, Folder};
-use crate::said::Said;
-use crate::texts::lines_with;
 use anyhow::{Result, ensure};
+use gate_kept_files::{Backed, Folder, Said, lines_with};
 use std::alloc::{AllocError, Global};
 use std::rt::Files;
 use std::str::from_utf8;

@@ -1,8 +1,8 @@
 //! What a command printed, beside what a transcript's lines tell of it.
 
-use super::line::halves;
-use crate::texts::lines_with;
+use crate::line::halves;
 use anyhow::{Context, Result, bail, ensure};
+use gate_kept_files::lines_with;
 use std::alloc::Global;
 use std::str::from_utf8;
 
