@@ -1,8 +1,9 @@
-use Rattle.std.proofs.Common.{◌∙◌, ap}
+use Rattle.std.proofs.Common.{◌∙◌, ap, sym}
 use Rattle.flat_machine.specs.Accesses.{fetched_of}
 use Rattle.flat_machine.specs.Memories as memory
 use Rattle.flat_model.specs.Flat.{FlatNode}
-use Rattle.rv32_exec.specs.Meaning.{Loads, DoesLr, Stores, DoesAmo, access_of, stop_of}
+use Rattle.flat_model.specs.Steps.{plan_access, plan_unless}
+use Rattle.rv32_exec.specs.Meaning.{Private, Loads, DoesLr, DoesSc, Stores, DoesAmo, Fences, access_of, stop_of}
 use Rattle.rv32_exec.specs.Width.{byte_count}
 use Rattle.rv32_exec.specs.declared.actions.Action.TheVariants as action
 use Rattle.flat_machine.proofs.FoundPlans.{found, goes_on, seen}
@@ -35,3 +36,31 @@ returns-in-Amo c =
     let i = c.args.fetched.now.instr in
     let f = found i hart.pc hart.regs c.args.size c.plan.result (action.Amo c.in-Amo.addr c.in-Amo.op c.in-Amo.operand) (seen c.plan.result i c.args.size c.node.inside.hart hart (ap (λ (n : FlatNode). n.hart) c.node.view_is) c.plan.ensures.value) c.in-Amo.is in
     c.plan_amo.ensures ∙ goes_on c.args.model (memory.bytes_of c.args.memory.now) c.args.node.now (fetched_of c.args.fetched.now) (stop_of i hart.pc hart.regs c.args.size) (access_of i hart.regs) (DoesAmo c.in-Amo.addr c.in-Amo.op c.in-Amo.operand) f
+
+pub returns-in-Private : goal.returns-in-Private
+returns-in-Private c =
+    let hart = c.args.node.now.hart in
+    let i = c.args.fetched.now.instr in
+    let f = found i hart.pc hart.regs c.args.size c.plan.result action.Private (seen c.plan.result i c.args.size c.node.inside.hart hart (ap (λ (n : FlatNode). n.hart) c.node.view_is) c.plan.ensures.value) c.in-Private.is in
+    c.retires.ensures ∙ goes_on c.args.model (memory.bytes_of c.args.memory.now) c.args.node.now (fetched_of c.args.fetched.now) (stop_of i hart.pc hart.regs c.args.size) (access_of i hart.regs) Private f
+
+pub returns-in-Sc : goal.returns-in-Sc
+returns-in-Sc c =
+    let hart = c.args.node.now.hart in
+    let i = c.args.fetched.now.instr in
+    let f = found i hart.pc hart.regs c.args.size c.plan.result (action.Sc c.in-Sc.addr c.in-Sc.value) (seen c.plan.result i c.args.size c.node.inside.hart hart (ap (λ (n : FlatNode). n.hart) c.node.view_is) c.plan.ensures.value) c.in-Sc.is in
+    c.plan_sc.ensures ∙ goes_on c.args.model (memory.bytes_of c.args.memory.now) c.args.node.now (fetched_of c.args.fetched.now) (stop_of i hart.pc hart.regs c.args.size) (access_of i hart.regs) (DoesSc c.in-Sc.addr c.in-Sc.value) f
+
+pub returns-in-Fence : goal.returns-in-Fence
+returns-in-Fence c =
+    let hart = c.args.node.now.hart in
+    let i = c.args.fetched.now.instr in
+    let f = found i hart.pc hart.regs c.args.size c.plan.result action.Fence (seen c.plan.result i c.args.size c.node.inside.hart hart (ap (λ (n : FlatNode). n.hart) c.node.view_is) c.plan.ensures.value) c.in-Fence.is in
+    c.plan_fence.ensures ∙ goes_on c.args.model (memory.bytes_of c.args.memory.now) c.args.node.now (fetched_of c.args.fetched.now) (stop_of i hart.pc hart.regs c.args.size) (access_of i hart.regs) Fences f
+
+pub returns-in-Stop : goal.returns-in-Stop
+returns-in-Stop c =
+    let hart = c.args.node.now.hart in
+    let i = c.args.fetched.now.instr in
+    let f = found i hart.pc hart.regs c.args.size c.plan.result (action.Stop c.in-Stop.code) (seen c.plan.result i c.args.size c.node.inside.hart hart (ap (λ (n : FlatNode). n.hart) c.node.view_is) c.plan.ensures.value) c.in-Stop.is in
+    ap (λ stop. plan_unless stop (plan_access c.args.model (memory.bytes_of c.args.memory.now) c.args.node.now (fetched_of c.args.fetched.now) (access_of i hart.regs))) (sym f)
