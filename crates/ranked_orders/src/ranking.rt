@@ -44,11 +44,7 @@ impl Model for Ranking {
 
 impl Ranking {
     /// The ranking of an order.
-    pub fn of(
-        alloc: Global,
-        trace: &Trace,
-        order: Vec<Operation>,
-    ) -> Result<Ranking, AllocError>
+    pub fn of(alloc: Global, trace: &Trace, order: Vec<Operation>) -> Result<Ranking, AllocError>
         requires { AreDistinctOperations order.items }
         ensures { IfOk result (λ ranking. ranking ≡ order.items) }
     {
