@@ -6,7 +6,7 @@ use std::fmt::{self, Display, Formatter};
 use trace_text::Script;
 
 /// Which of its numbers makes an event bad for the machine of a script.
-#[derive(Clone, Copy, Debug)]
+#[derive(Clone, Copy)]
 pub struct EventRemark<'a> {
     pub event: Event,
     pub script: &'a Script,
@@ -32,7 +32,7 @@ impl Display for EventRemark<'_> {
 }
 
 /// That no line of memory is at an address, by a script.
-#[derive(Clone, Copy, Debug)]
+#[derive(Clone, Copy)]
 pub struct OutsideRemark<'a> {
     address: u32,
     script: &'a Script,

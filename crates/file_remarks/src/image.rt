@@ -9,7 +9,7 @@ use std::fmt::{self, Display, Formatter};
 const FIRST: usize = 64;
 
 /// What is wrong with the bytes of a program, which was refused so.
-#[derive(Clone, Copy, Debug)]
+#[derive(Clone, Copy)]
 pub struct ImageRemark<'a> {
     pub bytes: &'a [u8],
     /// Whether they were to be bare words.

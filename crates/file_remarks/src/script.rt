@@ -10,7 +10,7 @@ use std::fmt::{self, Display, Formatter};
 use trace_text::{TextCode, TextError};
 
 /// What is wrong with the bytes of a script, which was refused so.
-#[derive(Clone, Copy, Debug)]
+#[derive(Clone, Copy)]
 pub struct ScriptRemark<'a> {
     pub bytes: &'a [u8],
     pub error: TextError,

@@ -4,7 +4,7 @@ use crate::field::Field;
 use std::fmt::{self, Display, Formatter};
 
 /// Which number of a machine's size, as the command line gives it, is out of its limits.
-#[derive(Clone, Copy, Debug)]
+#[derive(Clone, Copy)]
 pub struct SizeRemark {
     pub harts: u32,
     /// In KiB.

@@ -11,7 +11,7 @@ use std::fmt::{self, Display, Formatter};
 use trace_text::{TextCode, TextError};
 
 /// What is wrong with the bytes of a trace, which was refused so.
-#[derive(Clone, Copy, Debug)]
+#[derive(Clone, Copy)]
 pub struct TraceRemark<'a> {
     pub bytes: &'a [u8],
     pub error: TextError,
@@ -66,7 +66,7 @@ impl TraceRemark<'_> {
 }
 
 /// What stands behind a trace of so many bytes.
-#[derive(Clone, Copy, Debug)]
+#[derive(Clone, Copy)]
 pub struct BehindRemark<'a> {
     pub bytes: &'a [u8],
     pub length: usize,

@@ -6,7 +6,7 @@ use machine_types::{Event, LineSize};
 use std::marker::Model;
 
 /// Events in the order in which they happen.
-#[derive(Debug, Drop)]
+#[derive(Drop)]
 pub struct Events {
     items: Vec<Event>,
 }
@@ -44,7 +44,7 @@ impl Events {
 }
 
 /// What a machine is made of, within the limits of a `Config` and of memory, and what happens to it.
-#[derive(Debug, Drop)]
+#[derive(Drop)]
 pub struct Script {
     pub harts: u32,
     /// Main memory's size in KiB.
