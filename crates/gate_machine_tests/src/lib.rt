@@ -1,13 +1,11 @@
-//! Tests of the machine's batches, of its fabric under a lock, of the threads that run it and of the board by which they
-//! meet, apart from them, so that none of them is proved a second time for its tests.
+//! Tests of the machine's batches, of its fabric under a lock and of the threads that run it, apart from them, so that
+//! none of them is proved a second time for its tests.
 #![tactic(auto)]
 
 #[cfg(test)]
 mod answers;
 #[cfg(test)]
 mod batches;
-#[cfg(test)]
-mod drawing;
 #[cfg(test)]
 mod fabric;
 #[cfg(test)]

@@ -1,4 +1,5 @@
-//! Tests of the machine's parts, apart from them, so that none of them is proved a second time for its tests.
+//! Tests of the machine's parts and of the board by which threads meet, apart from them, so that none of them is proved
+//! a second time for its tests.
 #![tactic(auto)]
 
 #[cfg(test)]
@@ -7,6 +8,8 @@ mod buffer;
 mod cache;
 #[cfg(test)]
 mod channels;
+#[cfg(test)]
+mod drawing;
 #[cfg(test)]
 mod memory;
 #[cfg(test)]

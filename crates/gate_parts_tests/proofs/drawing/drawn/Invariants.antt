@@ -1,5 +1,5 @@
 use Rattle.progress_board.specs.Seat.{IsSeatOf}
-use Rattle.gate_machine_tests.proofs.drawing.sees_length.Given as goal
+use Rattle.gate_parts_tests.proofs.drawing.drawn.Given as goal
 
 abbrev pub invariant-loop : goal.invariant-loop
 invariant-loop l = IsSeatOf l.board l.seat
