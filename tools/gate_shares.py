@@ -5,8 +5,8 @@ usage: tools/gate_shares.py [COMMAND..]     (from the top of the repository; COM
 
 It looks twice a second at the processes of the toolchain that run below the command, by Linux's /proc, and
 adds up the processor time that each had taken when it was last seen. So a process's last half second isn't
-in the shares (the total is the system's own and has it), and what runs beside the toolchain's own program (the
-linker, the tests) stands under `other`.
+in the shares (the total is the system's own and has it), and what runs beside the toolchain's own program (`rt`
+itself, the linker, the programs and tests that were built) stands under `other`, each by its own name.
 The command's output goes to standard output; the shares follow it, with the most memory that one process of
 each crate held, and the slowest edits. Of a crate with several edits the first check proves the whole crate,
 for the others to begin with: by some kits as it stands, by others with the first edit, which is left out then.
@@ -45,6 +45,12 @@ def below(top, every):
     return {pid: every[pid][1] for pid in found if pid in every}
 
 
+def name_of(words):
+    """Returns a program's name: of a script its own, and not that of what reads it."""
+    is_read = "-c" not in words and os.path.basename(words[0]).startswith(("python", "bash", "sh"))
+    return os.path.basename(next((it for it in words[is_read:] if it and it[0] != "-"), words[0]))
+
+
 def share_of(pid):
     """Returns the crate, the kind of work that a process is at, and, of an edit, the folder where it is tried."""
     try:
@@ -54,7 +60,7 @@ def share_of(pid):
     except OSError:
         return None
     if not words[0].endswith("/rattle"):
-        return ("other", "other", "")
+        return (name_of(words), "other", "")
     crate = words[words.index("--crate-name") + 1] if "--crate-name" in words else "other"
     if "/rt-edit-" in folder:
         return (crate, "edits", folder)
