@@ -9,7 +9,8 @@ use crate::same::{same, same_of};
 use coherent_machine::{AdoptError, ApplyError, Machine, Views};
 use elf_loader::Image;
 use hart::{Direction, Hart, Logged, OpId, Retired, Status, Trace, run_local};
-use locked_fabric::{Fabric, Port, Share, Turn, Visit};
+use journalled_fabric::{Fabric, Share};
+use locked_fabric::{Port, Turn, Visit};
 use machine_types::{
     Body, Cap, Channel, Config, Event, Grow, LineData, LineSize, MemoryModel, Msg, Outcome,
 };

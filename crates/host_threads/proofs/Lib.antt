@@ -1,10 +1,1 @@
-pub mod Fresh
-pub mod Joining
-pub mod Leading
 pub mod Limit
-pub mod Pace
-pub mod Reported
-pub mod Round
-pub mod Sets
-pub mod Telling
-pub mod Wanting

@@ -3,9 +3,9 @@ use Rattle.std.proofs.Common.{ℕ, ◌≤◌, List, [], ◌∷◌, arith, map, r
 use Rattle.std.proofs.lemmas.List.Elements.{All-cons, All-head, All-nil, All-rest}
 use Rattle.std.proofs.lemmas.List.Sums.{sum_by-cons}
 use Rattle.std.specs.List.{All}
-use Rattle.host_threads.specs.Workers.{HandsBack}
-use Rattle.host_threads.specs.declared.worker.Common.{Common}
-use Rattle.host_threads.specs.declared.worker.Done.{Done}
+use Rattle.fabric_workers.specs.Workers.{HandsBack}
+use Rattle.run_reports.specs.declared.common.Common.{Common}
+use Rattle.fabric_workers.specs.declared.worker.Done.{Done}
 use Rattle.progress_board.proofs.Below.{all_below_limit, few_below}
 use Rattle.progress_board.specs.Rule.{DrewBelow, below}
 use Rattle.progress_board.specs.Seat.{IsSeatOf, view}
@@ -35,8 +35,3 @@ module _ {L : Type 0} where
   -- the numbers that they drew are those below some number, each once
   pub within_limit : (common : Common) (n : ℕ) (done : List (Done L)) → All (HandsBack common) done → DrewBelow (map view (seats_of done)) n → sum (counts_of done) ≤ common.limit
   within_limit common n done all drew = omega (arith, counts_within common done all, few_below common.limit n (map view (seats_of done)) drew)
-
-pub each_within : (limit : ℕ) (counts : List ℕ) → sum counts ≤ limit → All (λ (count : ℕ). count ≤ limit) counts
-each_within limit [] le = All-nil (λ (count : ℕ). count ≤ limit)
-each_within limit (count ∷ counts) le =
-    All-cons (λ (one : ℕ). one ≤ limit) count counts (omega (arith, le, sum-cons count counts)) (each_within limit counts (omega (arith, le, sum-cons count counts)))

@@ -1,28 +1,24 @@
 //! A whole run.
 
-ghost use Rattle.std.specs.Prelude.{◌≡◌, ◌≢◌, ◌↔◌, ◌⊎◌, ◌≤◌, Err, IfErr, IfOk, None, false, length, map, sum, vec_len};
+ghost use Rattle.std.specs.Prelude.{◌≡◌, ◌≢◌, ◌↔◌, ◌⊎◌, ◌≤◌, Err, IfErr, IfOk, None, length, map, sum, vec_len};
 ghost use Rattle.std.specs.List.{All};
 ghost use Rattle.coherent_machine.specs.Machine.{IsReached};
-ghost use Rattle.host_threads.specs.Replays.{IsOf, IsRun, IsWithinLimit, JournalMoves, JournalReplays, end_of_journal};
-ghost use Rattle.host_threads.specs.Workers.{AreFresh, IsFirstFault, common_of, first_fault};
-ghost use Rattle.locked_fabric.specs.FabricState.{IsKept};
+ghost use Rattle.fabric_workers.specs.Workers.{common_of};
+ghost use Rattle.host_threads.specs.Faults.{IsFirstFault, first_fault};
+ghost use Rattle.run_reports.specs.Replays.{IsOf, IsRun, IsWithinLimit, JournalMoves, JournalReplays, end_of_journal};
 ghost use Rattle.machine_model.specs.LawfulLog.{IsLawfulLog};
 ghost use Rattle.machine_model.specs.Laws.{IsHeadline};
-ghost use Rattle.progress_board.specs.Seat.{IsSeatOf, harts_of};
+ghost use Rattle.progress_board.specs.Seat.{AreFresh, IsSeatOf, harts_of};
 
-use crate::crew::{run_all, workers};
-use crate::gate::Gate;
-use crate::report::{Report, RunError};
-use crate::rounds::Rounds;
-use crate::same::is_of;
-use crate::worker::{Common, Done, Worker};
 use elf_loader::Image;
-use locked_fabric::{Fabric, Share, Turn};
+use fabric_workers::{Done, Gate, Rounds, Worker, run_all, workers};
+use journalled_fabric::{Fabric, Share};
+use locked_fabric::Turn;
 use machine_types::Config;
-use progress_board::{Board, Seat};
+use progress_board::Seat;
+use run_reports::{Common, Report, RunError, report_of, shared};
 use std::alloc::{AllocError, Global};
 use std::marker::Brand;
-use std::sync::atomic::AtomicBool;
 use std::sync::ledger::{Blank, Ledger};
 use std::sync::{Mutex, Wait};
 use std::thread::Threads;
@@ -89,34 +85,6 @@ pub fn run_with<G: Gate + Sync, T: Turn + Drop + Send, R: Threads + Wait + Sync>
     run_counted::<Brand, G, T, R>(rt, blank, image, &common, gate, seats, turns)
 }
 
-// What the threads share, and a seat for each hart.
-fn shared(
-    alloc: Global,
-    image: &Image,
-    config: Config,
-    limit: u64,
-) -> Result<(Common, Vec<Seat>), AllocError>
-    ensures image { IfOk result (λ made. made.0.image ≡ image.now) }
-    ensures config { IfOk result (λ made. made.0.config ≡ config) }
-    ensures limit { IfOk result (λ made. made.0.limit ≡ limit) }
-    ensures harts { IfOk result (λ made. harts_of made.0.board ≡ config.harts) }
-    ensures board { IfOk result (λ made. All (λ seat. IsSeatOf made.0.board seat) made.1.items) }
-    ensures seats { IfOk result (λ made. vec_len made.1 ≡ config.harts) }
-    ensures fresh { IfOk result (λ made. AreFresh made.1.items) }
-{
-    let own = image.try_copy(alloc)?;
-    let (board, seats) = Board::new(alloc, config.harts as u8)?;
-    let common = Common {
-        alloc,
-        image: own,
-        config,
-        board,
-        stop: AtomicBool::new(false),
-        limit,
-    };
-    Ok((common, seats))
-}
-
 // The run, with the ledger that the threads count in.
 fn run_counted<
     L: Ledger + Send + Sync,
@@ -174,44 +142,6 @@ fn counted<
     let (seats, shares) = handed_back(common.alloc, done)?;
     let _numbers = common.board.settle(seats);
     Ok(shares)
-}
-
-// What the run leaves, where the fabric is of the image and configuration that it began with.
-fn report_of<L: Ledger>(
-    common: &Common,
-    fabric: Fabric<L>,
-    shares: Vec<Share<L>>,
-) -> Result<Report, RunError>
-    requires all { length shares.items ≡ L.parts }
-    requires harts { length shares.items ≡ common.now.config.harts }
-    requires limit { sum shares.items ≤ common.now.limit }
-    ensures run { IfOk result (λ report. IsRun common.now.image common.now.config common.now.limit report) }
-    ensures config { result ≢ Err RunError.Config }
-{
-    if !is_of(fabric.machine(), &common.image, &common.config) {
-        return Err(RunError::Mismatch);
-    }
-    Ok(parts_of(fabric, shares))
-}
-
-fn parts_of<L: Ledger>(fabric: Fabric<L>, shares: Vec<Share<L>>) -> Report
-    requires all { length shares.items ≡ L.parts }
-    requires harts { length shares.items ≡ fabric.machine.views.config.harts }
-    ensures trace { result.trace.history ≡ fabric.machine.trace }
-    ensures outputs { map (λ output. output.items) result.outputs.items ≡ map (λ node. node.output) fabric.machine.views.nodes }
-    ensures journal { result.journal.items ≡ fabric.journal }
-    ensures receipts { result.receipts.items ≡ shares.items }
-    ensures total { sum result.receipts.items ≡ length result.journal.items }
-    ensures kept { IsKept fabric }
-{
-    let (machine, journal, receipts) = fabric.into_parts(shares);
-    let (trace, outputs) = machine.into_parts();
-    Report {
-        trace,
-        outputs,
-        journal,
-        receipts,
-    }
 }
 
 // The seats and the shares in their order, or the first fault.

@@ -1,3 +1,2 @@
-pub mod FabricState
 pub mod Port
 pub mod Turns

@@ -1,6 +1,6 @@
 use Rattle.std.proofs.Common.{◌≡◌, ◌+◌, ◌≤◌, ◌++◌, length, map, vec_len, vec_capacity}
 use Rattle.std.specs.Vec.Iter.{into_iter_items}
-use Rattle.host_threads.specs.Workers.{first_fault}
+use Rattle.host_threads.specs.Faults.{first_fault}
 use Rattle.host_threads.proofs.running.handed_back.Given as goal
 
 abbrev pub invariant-loop-one : goal.invariant-loop-one

@@ -1,0 +1,7 @@
+pub mod Fresh
+pub mod Joining
+pub mod Pace
+pub mod Round
+pub mod Sets
+pub mod Telling
+pub mod Wanting

@@ -1,0 +1,18 @@
+use Rattle.std.proofs.Common.{◌≡◌, ◌+◌, ◌≤◌, vec_len, vec_capacity}
+use Rattle.std.specs.List.{All}
+use Rattle.progress_board.specs.Seat.{AreFresh, IsSeatOf}
+use Rattle.fabric_workers.specs.Workers.{common_of}
+use Rattle.fabric_workers.proofs.crew.workers.Given as goal
+
+abbrev pub invariant-loop-hart : goal.invariant-loop-hart
+invariant-loop-hart g l = record {
+  board : All (λ seat. IsSeatOf l.common.board seat) l.seats.items;
+  opening : All (λ share. share ≡ 0) l.shares.items;
+  common : All (λ worker. common_of worker ≡ l.common) l.made.items;
+  fresh : AreFresh l.seats.items;
+  seats : vec_len l.seats ≡ l.hart;
+  shares : vec_len l.shares ≡ l.hart;
+  turns : vec_len l.turns ≡ l.hart;
+  made : vec_len l.made + l.hart ≡ l.harts;
+  room : l.harts ≤ vec_capacity l.made;
+}

@@ -1,0 +1,7 @@
+pub mod Asked
+pub mod Due
+pub mod Faults
+pub mod Pace
+pub mod Route
+pub mod Telling
+pub mod Workers
