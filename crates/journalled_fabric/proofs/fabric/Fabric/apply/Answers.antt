@@ -13,9 +13,9 @@ invariant_of-self-then-moved g c =
     let is = moves was.machine c.args.event c.in_ok-outcome.outcome c.apply.new.self c.in_ok-outcome.ensures.answers (λ same. c.if-moved.true (after ∙ same ∙ sym before)) in (
       rw (c.push_reserved.ensures.items, c.reserve.ensures.items, c.add.ensures.book)
           (kept_moved c.changes_are_counted.ensures was c.args.event c.in_ok-outcome.outcome c.apply.new.self is c.apply.ensures.stays c.apply.ensures.headline c.apply.ensures.log c.self.invariant.0),
-      search rules,
-      search rules,
-      search rules,
+      c.self.invariant.1,
+      c.self.invariant.2,
+      c.self.invariant.3,
       search rules,
     )
 
@@ -26,9 +26,9 @@ invariant_of-self-else-moved g c =
     let before = c.changes-changes.ensures ∙ ap (λ (s : State). s.views.changes) c.views.ensures in
     let is = still c.changes_are_counted.ensures was.machine c.args.event c.in_ok-outcome.outcome c.apply.new.self c.in_ok-outcome.ensures.answers (sym after ∙ c.if-moved.false ∙ before) in (
       rw c.reserve.ensures.items (kept_still was c.apply.new.self is c.self.invariant.0),
-      search rules,
-      search rules,
-      search rules,
+      c.self.invariant.1,
+      c.self.invariant.2,
+      c.self.invariant.3,
       search rules,
     )
 

@@ -11,9 +11,9 @@ invariant_of-self-2 g c =
           (kept_moved c.changes_are_counted.ensures was (local_of c.args.batch.now.first.id c.args.batch.now) c.in_ok-outcome.outcome c.adopt.new.self
           (rw c.first.ensures.first at c.in_ok-outcome.ensures.retired).0
           c.adopt.ensures.stays c.adopt.ensures.headline c.adopt.ensures.log c.self.invariant.0),
-      search rules,
-      search rules,
-      search rules,
+      c.self.invariant.1,
+      c.self.invariant.2,
+      c.self.invariant.3,
       search rules,
     )
 
