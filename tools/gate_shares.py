@@ -47,7 +47,8 @@ def below(top, every):
 
 def name_of(words):
     """Returns a program's name: of a script its own, and not that of what reads it."""
-    is_read = "-c" not in words and os.path.basename(words[0]).startswith(("python", "bash", "sh"))
+    is_text = any(it[:1] == "-" and it[-1:] == "c" for it in words)
+    is_read = not is_text and os.path.basename(words[0]) in ("python3", "bash", "sh")
     return os.path.basename(next((it for it in words[is_read:] if it and it[0] != "-"), words[0]))
 
 
@@ -58,6 +59,9 @@ def share_of(pid):
             words = file.read().decode(errors="replace").split("\0")
         folder = os.readlink(f"/proc/{pid}/cwd").partition(" (deleted)")[0]
     except OSError:
+        return None
+    if not words[0]:
+        # (it has ended, and was counted as what it was)
         return None
     if not words[0].endswith("/rattle"):
         return (name_of(words), "other", "")
@@ -102,7 +106,7 @@ def main():
     while run.poll() is None:
         for pid, seconds in below(run.pid, processes()).items():
             share = share_of(pid)
-            if share and pid != run.pid:
+            if share:
                 seen[pid, share] = max(seconds, seen.get((pid, share), 0))
                 held[share[0]] = max(held[share[0]], memory_of(pid))
         time.sleep(0.5)
