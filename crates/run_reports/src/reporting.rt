@@ -1,6 +1,6 @@
 //! The report of a run, from what its fabric and its shares are in the end.
 
-ghost use Rattle.std.specs.Prelude.{◌≡◌, ◌≢◌, ◌≤◌, Err, IfOk, length, map, sum};
+ghost use Rattle.std.specs.Prelude.{◌≡◌, ◌≢◌, ◌≤◌, Err, IfErr, IfOk, length, map, sum};
 ghost use Rattle.journalled_fabric.specs.FabricState.{IsKept};
 ghost use Rattle.run_reports.specs.Replays.{IsRun};
 
@@ -10,7 +10,8 @@ use crate::same::is_of;
 use journalled_fabric::{Fabric, Share};
 use std::sync::ledger::Ledger;
 
-/// What the run leaves, where the fabric is of the image and configuration that it began with.
+/// What the run leaves, where the fabric is of the image and configuration that it began with; `Mismatch`, where it is
+/// of others.
 pub fn report_of<L: Ledger>(
     common: &Common,
     fabric: Fabric<L>,
@@ -21,6 +22,8 @@ pub fn report_of<L: Ledger>(
     requires limit { sum shares.items ≤ common.now.limit }
     ensures run { IfOk result (λ report. IsRun common.now.image common.now.config common.now.limit report) }
     ensures config { result ≢ Err RunError.Config }
+    ensures mismatch { IfErr result (λ error. error ≡ RunError.Mismatch) }
+    ensures other { IfErr result (λ error. fabric.machine.trace.image ≡ common.now.image → fabric.machine.views.config ≡ common.now.config → ⊥) }
 {
     if !is_of(fabric.machine(), &common.image, &common.config) {
         return Err(RunError::Mismatch);
