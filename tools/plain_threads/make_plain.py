@@ -133,6 +133,8 @@ def plain(text):
     text = without_ghosts(text)
     text = without_blocks(text, r"^impl(<[^\n]*>)? Model for ")
     text = without_blocks(text, r"^impl(<[^\n]*>)? MadeWith")
+    # what Rust drops by itself
+    text = without_blocks(text, r"^(//[^\n]*\n)?impl(<[^\n]*>)? Drop for ")
     for old, new in USES + CHANGES:
         text = re.sub(old, new, text)
     text = re.sub(r"#\[derive\(([^)]*)\)\]", derives, text)

@@ -6,7 +6,6 @@ use state_search::Extent;
 use window_search::Reach;
 
 /// What is found of a program under a memory model. What is known of it stands at `explore_architecture`.
-#[derive(Drop)]
 pub struct Architecture {
     /// By hart, status first, then the numbers that were put out; and those of the same results by their words.
     pub outcomes: Vec<Outcome>,
@@ -22,4 +21,19 @@ pub struct Architecture {
     pub machine: Extent,
     /// How many states of the machine were found.
     pub machine_states: usize,
+}
+
+// A call of its own: derived, it would stand field by field in each function that owns one.
+impl Drop for Architecture {
+    fn drop(self) {
+        let Architecture {
+            outcomes: _,
+            model: _,
+            window: _,
+            reach: _,
+            states: _,
+            machine: _,
+            machine_states: _,
+        } = self;
+    }
 }

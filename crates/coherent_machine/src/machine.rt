@@ -26,10 +26,19 @@ use std::marker::Model;
 
 /// Harts with their store buffers and caches, the manager of main memory, and the trace so far. Some list
 /// of events leads to it from reset.
-#[derive(Drop)]
 pub struct Machine {
     parts: Parts,
     outputs: Outputs,
+}
+
+// A call of its own: derived, it would stand field by field in each function that owns one.
+impl Drop for Machine {
+    fn drop(self) {
+        let Machine {
+            parts: _,
+            outputs: _,
+        } = self;
+    }
 }
 
 impl Model for Machine {

@@ -16,12 +16,22 @@ use machine_types::Config;
 use std::alloc::Global;
 
 /// The machine and the program that a search is asked of.
-#[derive(Drop)]
 pub(crate) struct Asked {
     pub config: Config,
     pub image: Image,
     /// The text that says which outcomes are allowed, where a file was named for it.
     pub allowed: Option<Vec<u8>>,
+}
+
+// A call of its own: derived, it would stand field by field in each function that owns one.
+impl Drop for Asked {
+    fn drop(self) {
+        let Asked {
+            config: _,
+            image: _,
+            allowed: _,
+        } = self;
+    }
 }
 
 impl Asked {

@@ -20,11 +20,21 @@ pub fn run<R: Threads + Wait + Sync + AllocGlobal, F: Files, W: Write>(
 }
 
 /// What the command line printed, and its status.
-#[derive(Drop)]
 pub struct Said {
     pub status: u8,
     pub out: Vec<u8>,
     pub err: Vec<u8>,
+}
+
+// A call of its own: derived, it would stand field by field in each function that owns one.
+impl Drop for Said {
+    fn drop(self) {
+        let Said {
+            status: _,
+            out: _,
+            err: _,
+        } = self;
+    }
 }
 
 impl Said {

@@ -21,7 +21,6 @@ pub(crate) struct Node {
 
 /// A machine that does what the event meaning says, in lists. Where memory is refused amid an event it is
 /// left as it then stands.
-#[derive(Drop)]
 pub struct PlainMachine {
     pub(crate) alloc: Global,
     pub(crate) config: Config,
@@ -36,6 +35,23 @@ pub struct PlainMachine {
     pub(crate) changes: u32,
     pub(crate) performed: Vec<OpId>,
     pub(crate) log: Vec<Logged>,
+}
+
+// A call of its own: derived, it would stand field by field in each function that owns one.
+impl Drop for PlainMachine {
+    fn drop(self) {
+        let PlainMachine {
+            alloc: _,
+            config: _,
+            image: _,
+            nodes: _,
+            memory: _,
+            notes: _,
+            changes: _,
+            performed: _,
+            log: _,
+        } = self;
+    }
 }
 
 fn opening_node(alloc: Global, image: &Image, config: &Config, id: u8) -> Node {
@@ -207,16 +223,20 @@ impl PlainMachine {
 
     /// The trace of these lists, where they are a trace's.
     fn into_trace(self, entries: Vec<Vec<Retired>>, statuses: Vec<Status>) -> Option<Trace> {
+        let PlainMachine {
+            alloc: _,
+            config,
+            image,
+            nodes: _,
+            memory: _,
+            notes: _,
+            changes: _,
+            performed,
+            log,
+        } = self;
         if entries.len() != statuses.len() || !are_within_limits(&entries) {
             return None;
         }
-        Some(Trace::from_parts(
-            self.image,
-            self.config.line,
-            entries,
-            statuses,
-            self.performed,
-            self.log,
-        ))
+        Some(Trace::from_parts(image, config.line, entries, statuses, performed, log))
     }
 }

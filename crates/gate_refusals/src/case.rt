@@ -19,12 +19,23 @@ pub struct Kept {
 }
 
 /// Bare words, a script, and what it is to give.
-#[derive(Drop)]
 pub struct Case {
     words: Vec<u8>,
     pub config: Config,
     pub script: Script,
     pub kept: Kept,
+}
+
+// A call of its own: derived, it would stand field by field in each function that owns one.
+impl Drop for Case {
+    fn drop(self) {
+        let Case {
+            words: _,
+            config: _,
+            script: _,
+            kept: _,
+        } = self;
+    }
 }
 
 /// The file of a case with this ending.

@@ -17,7 +17,6 @@ use std::marker::Model;
 /// What is kept of a run: its image, its line size, and by hart the retired instructions and the status,
 /// then the performed operations and the messages in the order in which they came. It has at most `MAX_HARTS`
 /// harts, each with at most `MAX_ENTRIES` retired instructions.
-#[derive(Drop)]
 pub struct Trace {
     image: Image,
     line: LineSize,
@@ -25,6 +24,20 @@ pub struct Trace {
     statuses: Vec<Status>,
     performed: Vec<OpId>,
     log: Vec<Logged>,
+}
+
+// A call of its own: derived, it would stand field by field in each function that owns one.
+impl Drop for Trace {
+    fn drop(self) {
+        let Trace {
+            image: _,
+            line: _,
+            entries: _,
+            statuses: _,
+            performed: _,
+            log: _,
+        } = self;
+    }
 }
 
 impl Model for Trace {

@@ -19,7 +19,6 @@ use std::sync::ledger::{Blank, Book, Ledger};
 
 /// A machine and its journal: the events that changed it since its reset, the first one first. Each event
 /// counts once, in the share that was handed in with it. No call waits.
-#[derive(Drop)]
 pub struct Fabric<L: Ledger> {
     machine: Machine,
     journal: Vec<Event>,
@@ -28,6 +27,19 @@ pub struct Fabric<L: Ledger> {
     rest: ledger::Share<L>,
     // Room for what the shares count at the end.
     counts: Vec<u64>,
+}
+
+// A call of its own: derived, it would stand field by field in each function that owns one.
+impl<L: Ledger> Drop for Fabric<L> {
+    fn drop(self) {
+        let Fabric {
+            machine: _,
+            journal: _,
+            book: _,
+            rest: _,
+            counts: _,
+        } = self;
+    }
 }
 
 impl<L: Ledger> Model for Fabric<L> {

@@ -83,10 +83,16 @@ fn operation_in(
 }
 
 /// Each hart's instructions.
-#[derive(Drop)]
 pub struct Harts {
     lists: Vec<Items>,
     none: Items,
+}
+
+// A call of its own: derived, it would stand field by field in each function that owns one.
+impl Drop for Harts {
+    fn drop(self) {
+        let Harts { lists: _, none: _ } = self;
+    }
 }
 
 impl Model for Harts {

@@ -10,7 +10,6 @@ use std::rt::Files;
 use trace_text::{Script, read_script};
 
 /// The files of a case, by what their names end in behind its own.
-#[derive(Drop)]
 pub struct Case {
     pub kind: ImageKind,
     pub model: MemoryModel,
@@ -22,6 +21,23 @@ pub struct Case {
     /// Those of programs from ELF files aren't kept.
     pub outcomes: Vec<u8>,
     pub ends: Vec<u8>,
+}
+
+// A call of its own: derived, it would stand field by field in each function that owns one.
+impl Drop for Case {
+    fn drop(self) {
+        let Case {
+            kind: _,
+            model: _,
+            image_path: _,
+            script_path: _,
+            image: _,
+            script: _,
+            trace: _,
+            outcomes: _,
+            ends: _,
+        } = self;
+    }
 }
 
 impl Case {

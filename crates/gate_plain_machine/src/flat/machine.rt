@@ -16,7 +16,6 @@ use std::alloc::{AllocError, Global};
 
 /// A flat machine that does what the flat meaning says, or a wrong variant of it, in lists. Where memory is
 /// refused amid an event it is left as it then stands.
-#[derive(Drop)]
 pub struct FlatMachine {
     alloc: Global,
     rules: Rules,
@@ -26,6 +25,20 @@ pub struct FlatMachine {
     /// Memory's bytes.
     pub(crate) memory: Vec<u8>,
     pub(crate) performed: Vec<OpId>,
+}
+
+// A call of its own: derived, it would stand field by field in each function that owns one.
+impl Drop for FlatMachine {
+    fn drop(self) {
+        let FlatMachine {
+            alloc: _,
+            rules: _,
+            image: _,
+            harts: _,
+            memory: _,
+            performed: _,
+        } = self;
+    }
 }
 
 fn hart_of(event: FlatEvent) -> u8 {
