@@ -77,14 +77,22 @@ impl<'a> FormRemark<'a> {
     }
 }
 
+/// The fields of decimal numbers.
+static NUMBERS: [&[u8]; 4] = [b"HART", b"PLACE", b"COUNT", b"CODE"];
+
+/// The fields of addresses and words.
+static HEXADECIMALS: [&[u8]; 5] = [b"LINE", b"ADDRESS", b"PC", b"WORD", b"LOADED"];
+
 /// What is wrong with the word of a field of this name. Nothing is, where it rather is another field's.
 fn flaw_of<'a>(name: &[u8], word: &'a [u8], machine: Machine) -> Option<Flaw<'a>> {
+    if NUMBERS.contains(&name) && is_padded(word) {
+        return Some(Flaw::Padded);
+    }
+    if HEXADECIMALS.contains(&name) && is_misspelt(word) {
+        return Some(Flaw::Misspelt(word));
+    }
     match name {
-        b"HART" | b"PLACE" | b"COUNT" | b"CODE" if is_padded(word) => Some(Flaw::Padded),
         b"HART" => machine.hart_flaw(number_of(word)?),
-        b"LINE" | b"ADDRESS" | b"PC" | b"WORD" | b"LOADED" if is_misspelt(word) => {
-            Some(Flaw::Misspelt(word))
-        }
         b"LINE" => machine.address_flaw(address_of(word)?, machine.line),
         b"DATA" if !word.is_empty() => machine.data_flaw(word),
         _ => None,

@@ -107,23 +107,12 @@ fn print<W: Write>(
 }
 
 /// What cases are played with.
+#[derive(Drop)]
 struct Stage {
     case: Case,
     played: Played,
     said: Said,
     counts: Counts,
-}
-
-// A call of its own: derived, it would stand field by field in each function that owns one.
-impl Drop for Stage {
-    fn drop(self) {
-        let Stage {
-            case: _,
-            played: _,
-            said: _,
-            counts: _,
-        } = self;
-    }
 }
 
 impl Stage {

@@ -73,25 +73,13 @@ impl fmt::Display for Counts {
 }
 
 /// A machine, and the flat machine that is to show it.
+#[derive(Drop)]
 pub struct Lockstep {
     machine: Machine,
     flat: FlatMachine,
     written: Written,
     failures: Failures,
     pub counts: Counts,
-}
-
-// A call of its own: derived, it would stand field by field in each function that owns one.
-impl Drop for Lockstep {
-    fn drop(self) {
-        let Lockstep {
-            machine: _,
-            flat: _,
-            written: _,
-            failures: _,
-            counts: _,
-        } = self;
-    }
 }
 
 /// The last instruction that a hart has retired, and its place in the hart's list.

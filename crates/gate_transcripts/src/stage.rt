@@ -35,6 +35,7 @@ impl Told {
 }
 
 /// The files, the last command and what is told of it, and what it and the one before said.
+#[derive(Drop)]
 pub struct Stage {
     alloc: Global,
     files: Folder,
@@ -44,21 +45,6 @@ pub struct Stage {
     before: Said,
     /// How many commands there were.
     pub commands: usize,
-}
-
-// A call of its own: derived, it would stand field by field in each function that owns one.
-impl Drop for Stage {
-    fn drop(self) {
-        let Stage {
-            alloc: _,
-            files: _,
-            asked: _,
-            told: _,
-            said: _,
-            before: _,
-            commands: _,
-        } = self;
-    }
 }
 
 impl Stage {

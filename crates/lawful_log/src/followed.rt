@@ -16,11 +16,20 @@ use std::alloc::{AllocError, Global};
 use std::collections::HashMap;
 
 /// What a log says so far.
-#[derive(Drop)]
 pub(crate) struct Followed {
     /// By the line's address, what was said of it.
     lines: HashMap<u32, LineLog>,
     queues: Queues,
+}
+
+// A call of its own: derived, it would stand field by field in each function that owns one.
+impl Drop for Followed {
+    fn drop(self) {
+        let Followed {
+            lines: _,
+            queues: _,
+        } = self;
+    }
 }
 
 impl Followed {

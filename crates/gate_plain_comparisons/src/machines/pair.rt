@@ -35,19 +35,10 @@ pub fn image_of_words(alloc: Global, words: &[u32]) -> Result<Image> {
     image_of(alloc, ImageKind::Raw, &bytes, 4)
 }
 
+#[derive(Drop)]
 pub struct Pair {
     plain: PlainMachine,
     coherent: Machine,
-}
-
-// A call of its own: derived, it would stand field by field in each function that owns one.
-impl Drop for Pair {
-    fn drop(self) {
-        let Pair {
-            plain: _,
-            coherent: _,
-        } = self;
-    }
 }
 
 impl Pair {

@@ -14,23 +14,13 @@ use std::io::{self, Write};
 use trace_text::{Script, write_trace};
 
 /// What a play gave, as text.
+#[derive(Drop)]
 pub struct Played {
     /// A line for each event.
     outcomes: Vec<u8>,
     trace: Vec<u8>,
     /// A line for each hart.
     ends: Vec<u8>,
-}
-
-// A call of its own: derived, it would stand field by field in each function that owns one.
-impl Drop for Played {
-    fn drop(self) {
-        let Played {
-            outcomes: _,
-            trace: _,
-            ends: _,
-        } = self;
-    }
 }
 
 /// In what the plain machine and the machine differ from what is kept of a case.
