@@ -1,3 +1,4 @@
+pub mod Dealt
 pub mod Fresh
 pub mod Joining
 pub mod Pace

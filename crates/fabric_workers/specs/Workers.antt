@@ -23,6 +23,10 @@ told_by worker = view (seat_of worker.port)
 abbrev pub counted_by : {L T : Type 0} {g : turn.Ghosts T} → Worker L T g → ℕ
 counted_by worker = share_of worker.port
 
+-- what picks its hart's events
+abbrev pub turn_of : {L T : Type 0} {g : turn.Ghosts T} → Worker L T g → T
+turn_of worker = worker.turn.turn
+
 -- the length of its hart's list and the hart's status, as it saw them last
 abbrev pub seen_by : {L T : Type 0} {g : turn.Ghosts T} → Worker L T g → Option (ℕ × Status)
 seen_by worker = worker.turn.seen

@@ -1,9 +1,9 @@
 //! The threads of a run.
 
-ghost use Rattle.std.specs.Prelude.{◌≡◌, ◌≢◌, ◌≤◌, Err, IfOk, vec_len};
+ghost use Rattle.std.specs.Prelude.{◌≡◌, ◌⊎◌, ◌≤◌, IfErr, IfOk, map, reverse, vec_len};
 ghost use Rattle.std.specs.List.{All};
-ghost use Rattle.fabric_workers.specs.Workers.{HandsBack, common_of};
-ghost use Rattle.progress_board.specs.Seat.{AreFresh, IsSeatOf};
+ghost use Rattle.fabric_workers.specs.Workers.{HandsBack, common_of, counted_by, told_by, turn_of};
+ghost use Rattle.progress_board.specs.Seat.{AreFresh, IsSeatOf, view};
 
 use crate::gate::Gate;
 use crate::worker::{Done, Worker};
@@ -35,6 +35,9 @@ pub fn workers<'a, L: Ledger, T: Turn + Drop>(
     requires turns { vec_len turns ≡ vec_len shares }
     ensures made { IfOk result (λ made. vec_len made ≡ vec_len shares) }
     ensures common { IfOk result (λ made. All (λ worker. common_of worker ≡ common.now) made.items) }
+    ensures opening { IfOk result (λ made. All (λ worker. counted_by worker ≡ 0) made.items) }
+    ensures seats { IfOk result (λ made. reverse (map told_by made.items) ≡ map view seats.items) }
+    ensures turns { IfOk result (λ made. reverse (map turn_of made.items) ≡ turns.items) }
 {
     let harts = shares.len() as u8;
     let mut made = Vec::with_capacity(common.alloc, shares.len())?;
@@ -80,7 +83,7 @@ pub fn run_all<
     requires { All (λ worker. common_of worker ≡ common.now) workers.items }
     ensures done { IfOk result (λ done. vec_len done ≡ vec_len workers.entry) }
     ensures back { IfOk result (λ done. All (HandsBack common.now) done.items) }
-    ensures config { result ≢ Err RunError.Config }
+    ensures refused { IfErr result (λ error. (error ≡ RunError.NoMemory) ⊎ (error ≡ RunError.Thread)) }
 {
     let count = workers.len();
     thread::scope(
@@ -91,7 +94,7 @@ pub fn run_all<
             requires common { All (λ worker. common_of worker ≡ common.now) workers.items }
             ensures done { IfOk result (λ done. vec_len done ≡ count) }
             ensures back { IfOk result (λ done. All (HandsBack common.entry.now) done.items) }
-            ensures config { result ≢ Err RunError.Config }
+            ensures refused { IfErr result (λ error. (error ≡ RunError.NoMemory) ⊎ (error ≡ RunError.Thread)) }
         {
             let mut running = Vec::with_capacity(common.alloc, count)?;
             let mut done = Vec::with_capacity(common.alloc, count)?;

@@ -55,13 +55,16 @@ pub struct Done<L: Ledger> {
 }
 
 impl<'a, L: Ledger, T: Turn + Drop> Worker<'a, L, T> {
-    ghost use Rattle.fabric_workers.specs.Workers.{HandsBack, common_of, counted_by, seen_by, told_by};
+    ghost use Rattle.fabric_workers.specs.Workers.{HandsBack, common_of, counted_by, seen_by, told_by, turn_of};
 
     pub(crate) fn new(common: &'a Common, port: Port<'a, L>, hart: u8, turn: T) -> Worker<'a, L, T>
         requires seat { IsSeatOf common.now.board port.seat }
         requires share { share_of port ≡ 0 }
         requires hart { (view port.seat).hart ≡ hart }
-        ensures { common_of result ≡ common.now }
+        ensures common { common_of result ≡ common.now }
+        ensures share { counted_by result ≡ 0 }
+        ensures seat { told_by result ≡ view (seat_of port.entry) }
+        ensures turn { turn_of result ≡ turn }
     {
         let turn = Watched {
             turn,

@@ -20,5 +20,5 @@ returns-clause-done g c = subst (λ (n : ℕ). IfOk c.scoped.result (λ done. ve
 pub returns-clause-back : goal.returns-clause-back
 returns-clause-back g c = c.scoped.ensures.1.1.0
 
-pub returns-clause-config : goal.returns-clause-config
-returns-clause-config g c = c.scoped.ensures.1.1.1
+pub returns-clause-refused : goal.returns-clause-refused
+returns-clause-refused g c = c.scoped.ensures.1.1.1

@@ -3,7 +3,8 @@ use Rattle.std.proofs.lemmas.List.Elements.{All-pop, All-push}
 use Rattle.std.specs.List.{All}
 use Rattle.progress_board.specs.declared.seat.Seat.{Seat}
 use Rattle.progress_board.specs.Seat.{IsSeatOf, view}
-use Rattle.fabric_workers.specs.Workers.{common_of}
+use Rattle.fabric_workers.specs.Workers.{common_of, counted_by, told_by, turn_of}
+use Rattle.fabric_workers.proofs.Dealt.{dealt, dealt_out}
 use Rattle.fabric_workers.proofs.Fresh.{fresh_pop}
 use Rattle.fabric_workers.proofs.crew.workers.Goals as goal
 
@@ -12,7 +13,11 @@ loop-hart-preserved g c = record {
   board = (All-pop (λ (seat : Seat). IsSeatOf c.args.common.now.board seat) _ _ _ c.pop.ensures.items c.loop-hart.invariant.board).0;
   opening = (All-pop (λ (share : ℕ). share ≡ 0) _ _ _ c.pop-in-loop-hart.ensures.items c.loop-hart.invariant.opening).0;
   common = subst (All (λ worker. common_of worker ≡ c.args.common.now)) (sym c.push_reserved.ensures.items)
-      (All-push (λ worker. common_of worker ≡ c.args.common.now) _ _ c.loop-hart.invariant.common c.new.ensures);
+      (All-push (λ worker. common_of worker ≡ c.args.common.now) _ _ c.loop-hart.invariant.common c.new.ensures.common);
+  opened = subst (All (λ worker. counted_by worker ≡ 0)) (sym c.push_reserved.ensures.items)
+      (All-push (λ worker. counted_by worker ≡ 0) _ _ c.loop-hart.invariant.opened c.new.ensures.share);
+  told = dealt view told_by _ _ _ _ _ _ _ _ c.pop.ensures.items c.in-Some.is c.push_reserved.ensures.items (c.new.ensures.seat ∙ ap view c.new-port.ensures.seat) c.loop-hart.invariant.told;
+  dealt = dealt_out turn_of _ _ _ _ _ _ _ _ c.pop-in-loop-hart-2.ensures.items c.in-Some-pop-2.is c.push_reserved.ensures.items c.new.ensures.turn c.loop-hart.invariant.dealt;
   fresh = (fresh_pop _ _ _ c.pop.ensures.items c.loop-hart.invariant.fresh).0;
   seats = omega (arith, c.in-Some.ensures.len);
   shares = omega (arith, c.in-Some-pop.ensures.len);

@@ -44,5 +44,5 @@ returns g c = record {
   done = search rules;
   back = (c.loop-thread.invariant.back c.captures.common.now
       (subst (All (λ (thread : PromisedHandle _ Shared). thread.promise.0.value ≡ c.captures.common.now)) (sym c.into_iter-thread-iterator.ensures.into_iter_gives.0) c.loop-worker.invariant.promised)).1;
-  config = search rules;
+  refused = search rules;
 }
