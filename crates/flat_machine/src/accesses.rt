@@ -11,10 +11,10 @@ use crate::node::Node;
 use crate::plan::Plan;
 use hart::Retired;
 use machine_model::Deed;
-use machine_parts::{
+use machine_types::{MemoryModel, Outcome};
+use node_plans::{
     marks_of, orders_after_stores, read_from, store_of, waits_for_stores, word_of, write_waits,
 };
-use machine_types::{MemoryModel, Outcome};
 use rv32_decode::{AmoOp, Instr};
 use rv32_exec::{Call, Width, combine};
 

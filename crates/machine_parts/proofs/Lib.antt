@@ -6,10 +6,6 @@ mod Decided
 mod Probes
 mod Rooms
 pub mod RowsAlone
-mod Numbers
 mod Fronts
-mod PrivateRows
-mod FoundPlans
-mod FoundAccesses
 mod Taken
 pub mod Committed

@@ -1,4 +1,3 @@
-pub mod Codes
 pub mod Standing
 pub mod Parts
 pub mod Needs
@@ -7,4 +6,3 @@ pub mod Drains
 pub mod Lists
 pub mod Handled
 pub mod Deciding
-pub mod Accesses

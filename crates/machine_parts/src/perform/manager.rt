@@ -13,10 +13,10 @@ ghost use Rattle.machine_types.specs.Permission.{left_by};
 
 use super::messages::send;
 use crate::parts::Parts;
-use crate::words::place_of;
 use backing_memory::Memory;
 use directory::{Acquired, Grant, HartSet, Sent};
 use machine_types::{Body, Cap, Change, Grow, LineData, Msg, Perm};
+use node_plans::place_of;
 
 /// Data that came with a message go to memory.
 fn write_back(memory: &mut Memory, place: u32, bytes: Option<LineData>)

@@ -12,13 +12,12 @@ ghost use Rattle.tilelink_channels.specs.Queues.{front_of, queue_of};
 ghost use Rattle.machine_types.specs.declared.permission.Cap.{Cap as AnyCap};
 ghost use Rattle.machine_types.specs.declared.permission.Grow.{Grow as AnyGrow};
 
-use crate::node::Node;
 use crate::parts::Parts;
-use crate::words::place_of;
 use client_cache::ClientCache;
 use directory::{Directory, Transaction};
 use machine_model::{Act, Plan};
 use machine_types::{Body, Channel, Msg, Outcome};
+use node_plans::{Node, place_of};
 
 /// An Acquire waits while its line has a transaction.
 fn stalled_acquire(directory: &Directory, place: u32) -> Option<Outcome>

@@ -1,0 +1,5 @@
+mod Numbers
+mod Opened
+mod PrivateRows
+mod FoundPlans
+mod FoundAccesses
