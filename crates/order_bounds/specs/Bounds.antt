@@ -1,5 +1,5 @@
 -- For each operation of an order and each rule a bound on the weight of the operations that must come before it, found by one walk along each hart's list.
-use Rattle.std.specs.Prelude.{◌≡◌, ◌≤◌, ◌<◌, ◌||◌, ℕ, max, true, false, List, [], ◌∷◌, Some, slice_get, slice_index_or, take}
+use Rattle.std.specs.Prelude.{◌≡◌, ◌≤◌, ◌<◌, ◌+◌, ◌||◌, ℕ, max, true, false, List, [], ◌∷◌, Some, slice_get, slice_index_or, take}
 use Rattle.std.specs.List.{AllByRecursion}
 use Rattle.std.specs.Option.{option_map_or}
 use Rattle.machine_types.specs.declared.model.MemoryModel.{MemoryModel}
@@ -62,6 +62,10 @@ unbounded = record {
   dependent_store = most;
   dependent_address = most;
 }
+
+-- none of so many rows leaves room for a rank behind its own
+abbrev pub AreClear : List Row → ℕ → Type 0
+AreClear rows count = (place : ℕ) → place < count → greatest_of (slice_index_or rows place unbounded) ≤ place + 1
 
 -- ---- weights, by an operation's place in the order
 

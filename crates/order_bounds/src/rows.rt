@@ -1,5 +1,5 @@
 //! Bounds, one for each rule: the greatest weight of the operations that must come before another, or more.
-ghost use Rattle.std.specs.Prelude.{◌≡◌, ◌≤◌, ◌<◌, ◌+◌, ℕ, slice_index_or, true};
+ghost use Rattle.std.specs.Prelude.{◌≡◌, ◌↔◌, IsTrue, slice_index_or};
 ghost use Rattle.order_bounds.specs.Bounds as spec;
 
 use crate::rule::Rule;
@@ -101,7 +101,7 @@ pub fn bound_at(rows: &[Row], position: usize, rule: Rule) -> usize
 
 /// Whether the bounds of so many operations leave no room for one behind another that must come before it.
 pub fn are_clear(rows: &[Row], count: usize) -> bool
-    ensures { result ≡ true → (place : ℕ) → place < count → spec.greatest_of (slice_index_or rows.now place spec.unbounded) ≤ place + 1 }
+    ensures { IsTrue result ↔ spec.AreClear rows.now count }
 {
     for place in 0..count {
         if row_at(rows, place).greatest() > place + 1 {

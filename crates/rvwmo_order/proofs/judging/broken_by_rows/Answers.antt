@@ -7,7 +7,7 @@ pub returns-then-are_clear : goal.returns-then-are_clear
 returns-then-are_clear c =
     let same : c.order.result.now ≡ c.args.ranking.now = c.order.ensures in
     let long = ap length same in
-    sym (none_broken c.args.model c.args.harts.now c.args.ranking.now c.args.rows.now c.requires.distinct c.requires.ranked (λ p l. c.are_clear.ensures c.if-are_clear.true p (omega (arith, l, long))) all_rules)
+    sym (none_broken c.args.model c.args.harts.now c.args.ranking.now c.args.rows.now c.requires.distinct c.requires.ranked (λ p l. c.are_clear.ensures.0 c.if-are_clear.true p (omega (arith, l, long))) all_rules)
 
 pub loop-left-init : goal.loop-left-init
 loop-left-init c = ap (first_broken_rule c.args.model c.args.harts.now c.args.ranking.now) (sym c.as_slice-left.ensures)
