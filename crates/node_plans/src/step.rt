@@ -54,7 +54,8 @@ fn plan_next(config: &Config, image: &Image, node: &Node, place: u32) -> Plan
     plan_instr(config, image.size(), node, &fetched)
 }
 
-/// What the hart's next instruction comes to, which is to stand at this place of its list: it has to run.
+/// What the hart's next instruction comes to, which is to stand at this place of its list; `Halted` where the hart
+/// doesn't run.
 pub fn plan_step(config: &Config, image: &Image, node: &Node, place: u32) -> Plan
     requires line { node.now.cache.shape.size ≡ config.now.line }
     ensures { result ≡ spec.plan_step config.now.model image.now node.now place }
