@@ -16,7 +16,7 @@ use Rattle.machine_types.specs.declared.config.Config.{Config}
 use Rattle.machine_types.specs.declared.event.Event.{Event}
 use Rattle.schedules.specs.Schedules.{led}
 use Rattle.std.specs.Global.{Vec}
-use Rattle.hart.specs.declared.trace.Trace.{Trace}
+use Rattle.trace_recorder.specs.declared.trace.Trace.{Trace}
 use Rattle.witnesses.specs.declared.witness.Witness.{Witness}
 use Rattle.witnesses.specs.Witnesses.{IsWitness}
 use Rattle.explorer.specs.declared.words.found.WordFound.{WordFound}

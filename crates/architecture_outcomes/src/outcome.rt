@@ -4,7 +4,7 @@ ghost use Rattle.architecture_outcomes.specs.Outcomes.{of_witness};
 
 use explorer::Realisation;
 use flat_model::HartResult;
-use hart::Trace;
+use trace_recorder::Trace;
 use witnesses::Witness;
 
 /// Who comes to an outcome, and by what.

@@ -3,10 +3,10 @@ use Rattle.std.proofs.Common.{◌≡◌, ℕ, ◌/◌, ◌<◌, ◌≤◌, List,
 use Rattle.std.proofs.lemmas.List.{get_or-map, length-map, map-set}
 use Rattle.std.proofs.lemmas.List.FromFn.{length-map-range_with_len}
 use Rattle.backing_memory.specs.Memory.{FitsMemory, line_data, no_line, pieces_of}
-use Rattle.machine_types.specs.Line.{size_of}
-use Rattle.machine_types.specs.declared.line.LineData.{LineData}
-use Rattle.machine_types.specs.declared.line.LineData.TheVariants as data_of
-use Rattle.machine_types.specs.declared.line.LineSize.TheVariants as size
+use Rattle.tl_types.specs.Line.{size_of}
+use Rattle.tl_types.specs.declared.line.LineData.{LineData}
+use Rattle.tl_types.specs.declared.line.LineData.TheVariants as data_of
+use Rattle.tl_types.specs.declared.line.LineSize.TheVariants as size
 
 pub size-short : (lines : List (List ℕ)) (i : ℕ) → i < length lines → size_of (line_data (map data_of.Bytes16 lines) i) ≡ size.Bytes16
 size-short lines i h = let e = get_or-map data_of.Bytes16 lines i [] no_line h in rw e refl

@@ -1,11 +1,11 @@
 -- Main memory as the lines that caches and messages carry.
 use Rattle.std.specs.Prelude.{ℕ, ◌*◌, ◌/◌, ◌≤◌, List, [], ◌∷◌, map, take, drop, length, replicate, slice_index_or}
 use Rattle.std.specs.List.{range_with_len}
-use Rattle.machine_types.specs.Line.{length_of}
-use Rattle.machine_types.specs.declared.line.LineData.{LineData}
-use Rattle.machine_types.specs.declared.line.LineData.TheVariants as data_of
-use Rattle.machine_types.specs.declared.line.LineSize.{LineSize}
-use Rattle.machine_types.specs.declared.line.LineSize.TheVariants as size
+use Rattle.tl_types.specs.Line.{length_of}
+use Rattle.tl_types.specs.declared.line.LineData.{LineData}
+use Rattle.tl_types.specs.declared.line.LineData.TheVariants as data_of
+use Rattle.tl_types.specs.declared.line.LineSize.{LineSize}
+use Rattle.tl_types.specs.declared.line.LineSize.TheVariants as size
 
 -- the bytes in pieces of n, the k-th beginning at place k times n
 abbrev pub pieces_of : ℕ → List ℕ → List (List ℕ)

@@ -4,10 +4,10 @@ use Rattle.std.proofs.Common.{refl, ◌∙◌, arith}
 use Rattle.std.proofs.lemmas.List.{get_or-map, length-map}
 use Rattle.std.proofs.lemmas.List.FromFn.{get_or-map-range_with_len, length-map-range_with_len}
 use Rattle.backing_memory.specs.Memory.{line_data, lines_of, no_line, pieces_of}
-use Rattle.machine_types.specs.Line.{bytes_of, length_of, size_of}
-use Rattle.machine_types.specs.declared.line.LineData.TheVariants as data_of
-use Rattle.machine_types.specs.declared.line.LineSize.{LineSize}
-use Rattle.machine_types.specs.declared.line.LineSize.TheVariants as size
+use Rattle.tl_types.specs.Line.{bytes_of, length_of, size_of}
+use Rattle.tl_types.specs.declared.line.LineData.TheVariants as data_of
+use Rattle.tl_types.specs.declared.line.LineSize.{LineSize}
+use Rattle.tl_types.specs.declared.line.LineSize.TheVariants as size
 
 length-pieces : (n : ℕ) (bytes : List ℕ) → length (pieces_of n bytes) ≡ length bytes / n
 length-pieces n bytes = simp length-map-range_with_len

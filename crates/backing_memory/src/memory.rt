@@ -1,12 +1,12 @@
 //! Main memory as lines of one size.
 ghost use Rattle.std.specs.Prelude.{◌≡◌, ◌<◌, IfOk, length, slice_set};
 ghost use Rattle.backing_memory.specs.Memory.{FitsMemory, line_data, lines_of, pieces_of};
-ghost use Rattle.machine_types.specs.Line.{size_of};
+ghost use Rattle.tl_types.specs.Line.{size_of};
 
 use elf_loader::Image;
-use machine_types::{LineData, LineSize};
 use std::alloc::{AllocError, Global};
 use std::marker::Model;
+use tl_types::{LineData, LineSize};
 
 /// All lines of one size, so that a line costs its bytes alone.
 #[derive(Drop)]
@@ -24,7 +24,7 @@ pub struct Memory {
 
 impl Model for Memory {
     ghost use Rattle.std.specs.Prelude.{List};
-    ghost use Rattle.machine_types.specs.declared.line.LineData.{LineData};
+    ghost use Rattle.tl_types.specs.declared.line.LineData.{LineData};
 
     ghost Value = { List LineData };
 

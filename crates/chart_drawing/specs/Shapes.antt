@@ -1,7 +1,7 @@
 -- The elements of a chart.
 use Rattle.std.specs.Prelude.{ℕ, ◌+◌, ◌-◌, Bool, true, false, List, [], ◌∷◌, ◌++◌, Option, Some, None, codes, if◌then◌else◌}
-use Rattle.machine_types.specs.declared.message.Channel.{Channel}
-use Rattle.machine_types.specs.declared.message.Channel.TheVariants.{A, B, C, D, E}
+use Rattle.tl_types.specs.declared.message.Channel.{Channel}
+use Rattle.tl_types.specs.declared.message.Channel.TheVariants.{A, B, C, D, E}
 use Rattle.chart_drawing.specs.declared.plan.Plan.{Plan}
 use Rattle.chart_drawing.specs.declared.shapes.Hold.{Hold}
 use Rattle.chart_drawing.specs.declared.shapes.Hold.TheVariants.{Nothing, Branch, Trunk, Dirty}

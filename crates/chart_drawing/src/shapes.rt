@@ -5,8 +5,8 @@ ghost use Rattle.chart_drawing.specs.Shapes as shape;
 
 use crate::markup::{Attribute, Markup};
 use crate::plan::Plan;
-use machine_types::Channel;
 use std::alloc::AllocError;
+use tl_types::Channel;
 
 /// What a cache holds of a line. Each has its own colour and pattern.
 #[derive(Clone, Copy, Debug)]

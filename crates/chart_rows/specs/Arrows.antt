@@ -3,11 +3,11 @@ use Rattle.std.specs.Prelude.{ℕ, ◌+◌, ◌-◌, ◌*◌, ◌==◌, ◌&&◌
 use Rattle.chart_drawing.specs.Shapes as shape
 use Rattle.chart_drawing.specs.declared.plan.Plan.{Plan}
 use Rattle.chart_drawing.specs.declared.shapes.Message.{Message}
-use Rattle.machine_types.specs.Message.{channel_of}
-use Rattle.machine_types.specs.declared.message.Channel.{Channel}
-use Rattle.machine_types.specs.declared.message.Channel.TheVariants.{A, B, C, D, E}
-use Rattle.hart.specs.declared.logged.Direction.{Direction}
-use Rattle.hart.specs.declared.logged.Direction.TheVariants.{Sent, Taken}
+use Rattle.tl_types.specs.Message.{channel_of}
+use Rattle.tl_types.specs.declared.message.Channel.{Channel}
+use Rattle.tl_types.specs.declared.message.Channel.TheVariants.{A, B, C, D, E}
+use Rattle.trace_recorder.specs.declared.logged.Direction.{Direction}
+use Rattle.trace_recorder.specs.declared.logged.Direction.TheVariants.{Sent, Taken}
 use Rattle.trace_text.specs.MessageParts.{heading}
 use Rattle.chart_rows.specs.declared.rows.Posted.{Posted}
 

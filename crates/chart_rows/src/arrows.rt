@@ -5,10 +5,10 @@ ghost use Rattle.chart_rows.specs.Arrows as arrows;
 
 use crate::rows::Posted;
 use chart_drawing::{Markup, Message, Plan, put_arrow};
-use hart::Direction;
-use machine_types::Channel;
 use std::alloc::AllocError;
 use text_fields::Page;
+use tl_types::Channel;
+use trace_recorder::Direction;
 use trace_text::spell_message;
 
 fn channel_number(channel: Channel) -> u16

@@ -3,8 +3,9 @@ ghost use Rattle.std.specs.Prelude.{◌≤◌, vec_len};
 ghost use Rattle.machine_types.specs.declared.limits.TheConstants.{MAX_HARTS};
 
 use chart_drawing::Hold;
-use hart::{Logged, Retired};
+use hart::Retired;
 use machine_types::{Event, Outcome};
+use trace_recorder::Logged;
 
 /// Something that a hart's core did.
 #[derive(Clone, Copy, Debug)]

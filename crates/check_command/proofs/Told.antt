@@ -9,7 +9,7 @@ use Rattle.memory_model.specs.Traces.{completed}
 use Rattle.rvwmo_order.specs.Answers.{refusal}
 use Rattle.rvwmo_order.specs.declared.error.CheckError.{CheckError}
 use Rattle.rvwmo_order.specs.declared.error.CheckError.TheVariants.{NoMemory}
-use Rattle.hart.specs.History.{History}
+use Rattle.trace_recorder.specs.History.{History}
 use Rattle.trace_text.specs.TraceLimits.{IsTrace}
 use Rattle.trace_text.specs.Traces.{text}
 use Rattle.command_files.specs.declared.fault.Fault.{Fault}

@@ -16,8 +16,8 @@ use Rattle.std.specs.Fmt.{decimal}
 use Rattle.std.specs.Io.KnownBytes.{Appends}
 use Rattle.std.specs.Prelude.{◌≡◌, ◌≢◌, ◌↔◌, ◌⊎◌, ℕ, IfSome, List, [], ◌++◌, None, Option, Some, codes}
 use Rattle.text_fields.specs.Writing.{Begins}
-use Rattle.hart.specs.History.{History}
-use Rattle.hart.specs.declared.operation.OpId.{OpId}
+use Rattle.trace_recorder.specs.History.{History}
+use Rattle.trace_recorder.specs.declared.operation.OpId.{OpId}
 use Rattle.trace_text.specs.TraceLimits.{IsTrace}
 use Rattle.trace_text.specs.Traces.{text}
 use Rattle.trace_text.specs.TraceRefusals.{IsTraceRefusal}

@@ -13,8 +13,8 @@ use Rattle.log_text.specs.Ending.{ended}
 use Rattle.log_text.specs.Verdicts.{verdict_text}
 use Rattle.machine_model.specs.LawfulLog.{IsLawfulLog}
 use Rattle.text_fields.specs.Writing.{Begins}
-use Rattle.hart.specs.History.{History}
-use Rattle.hart.specs.declared.logged.Logged.{Logged}
+use Rattle.trace_recorder.specs.History.{History}
+use Rattle.trace_recorder.specs.declared.logged.Logged.{Logged}
 use Rattle.trace_text.specs.TraceLimits.{IsTrace}
 use Rattle.trace_text.specs.Traces.{text}
 use Rattle.trace_text.specs.declared.fault.TextError.{TextError}

@@ -10,7 +10,6 @@ ghost use Rattle.command_files.specs.Faults.{LeavesAtFault};
 
 use crate::reading::whole_trace;
 use command_files::{Fault, Files, remark, text_in};
-use hart::Trace;
 use machine_types::MemoryModel;
 use order_remarks::{LengthRemark, NamingRemark, OrderRemark, RunRemark};
 use rvwmo_order::{CheckError, Verdict, check_model};
@@ -18,6 +17,7 @@ use std::alloc::Global;
 use std::io::{self, Write};
 use text_fields::{Piece, put_pieces};
 use trace_operations::{completed, has_too_many};
+use trace_recorder::Trace;
 
 /// Reads a trace, judges its completed order under the model, and prints the verdict on `out`.
 pub fn check_file<'a, F: Files, O: Write>(

@@ -8,11 +8,11 @@ ghost use Rattle.command_files.specs.Faults.{LeavesAtFault};
 
 use crate::reading::whole_trace;
 use command_files::{Escaped, Fault, Files, remark, text_in};
-use hart::Trace;
 use lawful_log::{LogVerdict, check_log};
 use log_text::{Objection, end_text, line_of_message, put_verdict};
 use std::alloc::Global;
 use std::io::{self, Write};
+use trace_recorder::Trace;
 
 /// Reads a trace, or one that ends behind its messages, judges its log, and prints the verdict on `out`.
 /// Where the log isn't lawful, the line of the message that breaks a rule, and what stood against it, go to

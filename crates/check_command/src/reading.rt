@@ -7,8 +7,8 @@ ghost use Rattle.trace_text.specs.Traces.{text};
 
 use command_files::{Fault, Files, remark};
 use file_remarks::{BehindRemark, TraceRemark};
-use hart::Trace;
 use std::alloc::Global;
+use trace_recorder::Trace;
 use trace_text::read_trace;
 
 /// The trace whose text these bytes of the file are. Where they are none, what is wrong is remarked.

@@ -5,10 +5,10 @@ use Rattle.std.specs.FinMap.{FinMap, get}
 use Rattle.std.specs.FinSet as set
 use Rattle.std.specs.FinSet.{FinSet}
 use Rattle.machine_types.specs.declared.limits.TheConstants.{TRACKERS}
-use Rattle.machine_types.specs.declared.line.LineData.{LineData}
-use Rattle.machine_types.specs.declared.permission.Cap.{Cap}
-use Rattle.machine_types.specs.declared.permission.Change.{Change}
-use Rattle.machine_types.specs.declared.permission.Grow.{Grow}
+use Rattle.tl_types.specs.declared.line.LineData.{LineData}
+use Rattle.tl_types.specs.declared.permission.Cap.{Cap}
+use Rattle.tl_types.specs.declared.permission.Change.{Change}
+use Rattle.tl_types.specs.declared.permission.Grow.{Grow}
 use Rattle.client_cache.specs.declared.held.Held.{Held}
 use Rattle.client_cache.specs.declared.answers.Want.{Want}
 use Rattle.client_cache.specs.declared.answers.Want.TheVariants.{WaitRelease, WaitGrant, NoTracker, SetFull, Missed}

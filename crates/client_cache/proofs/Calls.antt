@@ -3,9 +3,9 @@ use Rattle.std.proofs.Common.{◌≡◌, ℕ, true, false, nat_le, Some, None, r
 use Rattle.std.specs.FinMap as map
 use Rattle.std.specs.FinSet as fset
 use Rattle.machine_types.specs.declared.limits.TheConstants.{TRACKERS}
-use Rattle.machine_types.specs.declared.permission.Cap.{Cap}
-use Rattle.machine_types.specs.declared.permission.Perm.TheVariants.{Nothing}
-use Rattle.machine_types.specs.Shrink.{shrunk_by}
+use Rattle.tl_types.specs.declared.permission.Cap.{Cap}
+use Rattle.tl_types.specs.declared.permission.Perm.TheVariants.{Nothing}
+use Rattle.tl_types.specs.Shrink.{shrunk_by}
 use Rattle.client_cache.specs.declared.held.Held.{Held}
 use Rattle.client_cache.specs.declared.answers.Evict.TheVariants.{NotHeld, AcquirePending, ReleaseFull}
 use Rattle.client_cache.specs.declared.answers.Probed.TheVariants.{Answered, Releasing}

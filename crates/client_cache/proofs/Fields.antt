@@ -5,7 +5,7 @@ use Rattle.std.specs.Ordering.{nat_cmp}
 use Rattle.std.specs.FinSet as fset
 use Rattle.std.specs.FinSet.{FinSet}
 use Rattle.machine_types.specs.declared.limits.TheConstants.{TRACKERS}
-use Rattle.machine_types.specs.declared.permission.Grow.{Grow}
+use Rattle.tl_types.specs.declared.permission.Grow.{Grow}
 use Rattle.client_cache.specs.declared.held.Held.{Held}
 use Rattle.client_cache.specs.declared.slot.Place.{Place}
 use Rattle.client_cache.specs.declared.array.Array.{Array}

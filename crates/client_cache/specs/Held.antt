@@ -1,12 +1,12 @@
 -- One copy of a line, and what becomes of it (TileLink 1.8.1, "Permissions transitions" and the messages of TL-C).
 use Rattle.std.specs.Prelude.{true, false, Option, Some, None}
-use Rattle.machine_types.specs.declared.line.LineData.{LineData}
-use Rattle.machine_types.specs.declared.permission.Perm.{Perm}
-use Rattle.machine_types.specs.declared.permission.Perm.TheVariants.{Nothing, Branch as BranchPerm, Trunk as TrunkPerm}
-use Rattle.machine_types.specs.declared.permission.Cap.{Cap}
-use Rattle.machine_types.specs.declared.permission.Cap.TheVariants.{ToN}
-use Rattle.machine_types.specs.Permission.{named_by}
-use Rattle.machine_types.specs.Shrink.{shrunk_by}
+use Rattle.tl_types.specs.declared.line.LineData.{LineData}
+use Rattle.tl_types.specs.declared.permission.Perm.{Perm}
+use Rattle.tl_types.specs.declared.permission.Perm.TheVariants.{Nothing, Branch as BranchPerm, Trunk as TrunkPerm}
+use Rattle.tl_types.specs.declared.permission.Cap.{Cap}
+use Rattle.tl_types.specs.declared.permission.Cap.TheVariants.{ToN}
+use Rattle.tl_types.specs.Permission.{named_by}
+use Rattle.tl_types.specs.Shrink.{shrunk_by}
 use Rattle.client_cache.specs.declared.answers.Evict.{Evict}
 use Rattle.client_cache.specs.declared.answers.Evict.TheVariants.{Evicted}
 use Rattle.client_cache.specs.declared.answers.Probed.{Probed}

@@ -1,6 +1,6 @@
 -- Where a cache keeps a line.
 use Rattle.std.specs.Prelude.{ℕ, ◌/◌, ◌%◌}
-use Rattle.machine_types.specs.Line.{length_of}
+use Rattle.tl_types.specs.Line.{length_of}
 use Rattle.client_cache.specs.declared.shape.Shape.{Shape}
 
 -- the set that the line at this address belongs to

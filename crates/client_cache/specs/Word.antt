@@ -1,7 +1,7 @@
 -- A write to some of the bytes of one word of a line.
 use Rattle.std.specs.Prelude.{ℕ, ◌+◌, ◌%◌, Bool, List, [], ◌∷◌, slice_set, if◌then◌else◌}
-use Rattle.machine_types.specs.declared.line.LineData.{LineData}
-use Rattle.machine_types.specs.declared.line.LineData.TheVariants.{Bytes16, Bytes64}
+use Rattle.tl_types.specs.declared.line.LineData.{LineData}
+use Rattle.tl_types.specs.declared.line.LineData.TheVariants.{Bytes16, Bytes64}
 
 -- from a place on, each byte that is marked is written, and each other stays
 abbrev pub with_marked : List ℕ → ℕ → List Bool → List ℕ → List ℕ

@@ -1,5 +1,5 @@
 //! What the calls of a cache answer.
-use machine_types::{Change, Grow, LineData};
+use tl_types::{Change, Grow, LineData};
 
 /// What a miss on a line comes to: an Acquire, or what it has to wait for.
 #[derive(Clone, Copy, Debug, PartialEq, Eq)]

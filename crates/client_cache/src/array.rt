@@ -8,9 +8,9 @@ ghost use Rattle.client_cache.specs.Array.{slots_of_set, place_of, copy_in, IsSe
 use crate::held::Held;
 use crate::shape::Shape;
 use crate::slot::{Place, Slot, find, find_free};
-use machine_types::Ticks;
 use std::alloc::{AllocError, Global};
 use std::sync::ledger::Ledger;
+use tl_types::Ticks;
 
 #[derive(Drop)]
 pub struct Array {

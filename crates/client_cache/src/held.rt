@@ -3,7 +3,7 @@ ghost use Rattle.std.specs.Prelude.{◌≡◌, None};
 ghost use Rattle.client_cache.specs.Held.{perm_of, bytes_in, dirty_in, eviction_of, answer_of, clean_copy, shrunk_copy, granted_copy};
 
 use crate::answers::{Evict, Probed};
-use machine_types::{Cap, LineData, Perm, shrink};
+use tl_types::{Cap, LineData, Perm, shrink};
 
 /// A copy that a cache has. A Branch is never dirty, and Nothing is no copy.
 #[derive(Clone, Copy, Debug, PartialEq, Eq)]

@@ -1,10 +1,10 @@
 //! Laws of a cache's calls: a call concerns one line alone.
 ghost use Rattle.std.specs.Prelude.{◌≡◌, ◌≢◌, ℕ, Option, None, true, false};
 ghost use Rattle.std.specs.FinSet as set;
-ghost use Rattle.machine_types.specs.declared.line.LineData.{LineData};
-ghost use Rattle.machine_types.specs.declared.permission.Cap.{Cap};
-ghost use Rattle.machine_types.specs.declared.permission.Change.{Change};
-ghost use Rattle.machine_types.specs.declared.permission.Grow.{Grow};
+ghost use Rattle.tl_types.specs.declared.line.LineData.{LineData};
+ghost use Rattle.tl_types.specs.declared.permission.Cap.{Cap};
+ghost use Rattle.tl_types.specs.declared.permission.Change.{Change};
+ghost use Rattle.tl_types.specs.declared.permission.Grow.{Grow};
 ghost use Rattle.client_cache.specs.declared.held.Held.TheVariants.{Trunk};
 ghost use Rattle.client_cache.specs.declared.answers.Want.TheVariants.{Missed};
 ghost use Rattle.client_cache.specs.declared.answers.Evict.TheVariants.{Evicted};

@@ -2,7 +2,7 @@
 ghost use Rattle.std.specs.Prelude.{◌≡◌, ◌<◌};
 ghost use Rattle.client_cache.specs.Shape.{set_of};
 
-use machine_types::LineSize;
+use tl_types::LineSize;
 
 /// Sets by ways, and the size of the lines.
 #[derive(Clone, Copy, PartialEq, Eq)]

@@ -3,8 +3,8 @@ ghost use Rattle.std.specs.Prelude.{◌≡◌, ◌≤◌, ◌+◌, length, IfSom
 ghost use Rattle.client_cache.specs.Row.{IsAt, IsFreeAt, AllUsed, place_at, holds, is_used};
 
 use crate::held::Held;
-use machine_types::Ticks;
 use std::sync::ledger::Ledger;
+use tl_types::Ticks;
 
 /// What a slot has: a line, its copy, and whether an Acquire of it is outstanding. With neither the
 /// slot is free, whatever its line.

@@ -1,17 +1,17 @@
 //! The cache's calls for those who count no looks.
 ghost use Rattle.std.specs.Prelude.{◌≡◌, ◌<◌, ◌%◌, IsTrue};
 ghost use Rattle.std.specs.FinSet as set;
-ghost use Rattle.machine_types.specs.declared.permission.Perm.TheVariants as perms;
-ghost use Rattle.machine_types.specs.declared.permission.Grow.{Grow};
+ghost use Rattle.tl_types.specs.declared.permission.Perm.TheVariants as perms;
+ghost use Rattle.tl_types.specs.declared.permission.Grow.{Grow};
 ghost use Rattle.client_cache.specs.Held.{perm_of};
 ghost use Rattle.client_cache.specs.Cache.{copy_at, wanted, written, word_written, bytes_of_copy, evicted, probed, granted};
 
 use crate::answers::{Evict, Probed, Want};
 use crate::cache::ClientCache;
 use crate::held::Held;
-use machine_types::{Cap, Grow, LineData, Perm, Ticks};
 use std::marker::Brand;
 use std::sync::ledger::{Blank, Ledger};
+use tl_types::{Cap, Grow, LineData, Perm, Ticks};
 
 impl ClientCache {
     /// The permission that the cache has for a line.

@@ -6,7 +6,7 @@ use Rattle.command_files.specs.Ends.{hart_line, hart_lines, ends_of}
 use Rattle.hart.specs.declared.status.Status.{Status}
 use Rattle.machine_model.specs.Views.{Node, State}
 use Rattle.text_fields.specs.Writing.{Begins, Writes}
-use Rattle.hart.specs.History.{History}
+use Rattle.trace_recorder.specs.History.{History}
 
 behind_first : {X : Type 0} (xs : List X) → take (suc (length xs) - 1) xs ≡ xs
 behind_first xs = let less : suc (length xs) - 1 ≡ length xs = omega arith in ap (λ n. take n xs) less ∙ take-length xs

@@ -4,7 +4,7 @@ use Rattle.elf_loader.specs.Load.{load_answer}
 use Rattle.elf_loader.specs.Raw.{raw_answer}
 use Rattle.elf_loader.specs.Image.{Initial}
 use Rattle.elf_loader.specs.declared.error.LoadError.{LoadError}
-use Rattle.hart.specs.History.{History}
+use Rattle.trace_recorder.specs.History.{History}
 use Rattle.trace_text.specs.Scripts as scripts
 use Rattle.trace_text.specs.Scripts.{IsScript}
 use Rattle.trace_text.specs.TraceLimits.{IsTrace}

@@ -7,7 +7,8 @@ ghost use Rattle.trace_text.specs.Scripts.{IsEvent};
 
 use command_settings::MachineOptions;
 use elf_loader::is_memory_kib;
-use machine_types::{Config, Event, LineSize, MemoryModel, is_within_limits};
+use machine_types::{Config, Event, MemoryModel, is_within_limits};
+use tl_types::LineSize;
 use trace_text::{Events, Script};
 
 /// The machine that a script is for.

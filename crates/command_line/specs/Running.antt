@@ -33,7 +33,7 @@ use Rattle.lawful_log.specs.declared.rule.LogVerdict.TheVariants.{Lawful, Unlawf
 use Rattle.rvwmo_order.specs.declared.verdict.Code.{Code}
 use Rattle.rvwmo_order.specs.declared.verdict.Verdict.TheVariants.{Fault, Legal}
 use Rattle.text_fields.specs.Writing.{Begins}
-use Rattle.hart.specs.declared.operation.OpId.{OpId}
+use Rattle.trace_recorder.specs.declared.operation.OpId.{OpId}
 
 -- the words fit the usage, and P holds of the settings that they name
 abbrev pub HasNamed : List Text → (Settings → Type 0) → Type 0

@@ -1,7 +1,7 @@
 -- The manager's notes of all lines, named by their place in memory from 0. A message changes the line that it names.
 use Rattle.std.specs.Prelude.{ℕ, ◌<◌, All, List, Option, slice_set, slice_index_or, replicate}
-use Rattle.machine_types.specs.declared.permission.Grow.{Grow}
-use Rattle.machine_types.specs.declared.permission.Change.{Change}
+use Rattle.tl_types.specs.declared.permission.Grow.{Grow}
+use Rattle.tl_types.specs.declared.permission.Change.{Change}
 use Rattle.directory.specs.declared.answer.Transaction.TheVariants.{Idle}
 use Rattle.directory.specs.declared.answer.Grant.{Grant}
 use Rattle.directory.specs.declared.answer.Acquired.{Acquired}

@@ -2,14 +2,14 @@
 -- Grant, Release). It knows no masks.
 use Rattle.std.specs.Prelude.{ℕ, Bool, true, false, not, ◌&&◌, List, [], ◌∷◌, Option, Some, None, if◌then◌else◌, nat_eq, length, map, slice_set, slice_index_or}
 use Rattle.std.specs.List.{range_with_len, list_any}
-use Rattle.machine_types.specs.declared.permission.Perm.{Perm}
-use Rattle.machine_types.specs.declared.permission.Perm.TheVariants.{Nothing, Branch, Trunk}
-use Rattle.machine_types.specs.declared.permission.Grow.{Grow}
-use Rattle.machine_types.specs.declared.permission.Grow.TheVariants.{NtoB, NtoT, BtoT}
-use Rattle.machine_types.specs.declared.permission.Cap.{Cap}
-use Rattle.machine_types.specs.declared.permission.Cap.TheVariants.{ToB, ToN}
-use Rattle.machine_types.specs.declared.permission.Change.{Change}
-use Rattle.machine_types.specs.Permission.{named_by, granted_for, left_by}
+use Rattle.tl_types.specs.declared.permission.Perm.{Perm}
+use Rattle.tl_types.specs.declared.permission.Perm.TheVariants.{Nothing, Branch, Trunk}
+use Rattle.tl_types.specs.declared.permission.Grow.{Grow}
+use Rattle.tl_types.specs.declared.permission.Grow.TheVariants.{NtoB, NtoT, BtoT}
+use Rattle.tl_types.specs.declared.permission.Cap.{Cap}
+use Rattle.tl_types.specs.declared.permission.Cap.TheVariants.{ToB, ToN}
+use Rattle.tl_types.specs.declared.permission.Change.{Change}
+use Rattle.tl_types.specs.Permission.{named_by, granted_for, left_by}
 use Rattle.directory.specs.declared.answer.Known.{Known}
 use Rattle.directory.specs.declared.answer.Transaction.{Transaction}
 use Rattle.directory.specs.declared.answer.Transaction.TheVariants.{Idle, Probing, Granted}

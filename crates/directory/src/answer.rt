@@ -1,6 +1,6 @@
 //! What the directory answers: a line's notes, and the messages that are to be sent.
 use crate::harts::HartSet;
-use machine_types::{Cap, Grow, Perm};
+use tl_types::{Cap, Grow, Perm};
 
 /// What is noted of one hart for one line: its permission by the messages taken so far, and whether
 /// its ProbeAck is awaited.

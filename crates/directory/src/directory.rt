@@ -1,15 +1,15 @@
 //! The entries of all lines.
 ghost use Rattle.std.specs.Prelude.{◌≡◌, ◌≢◌, ◌+◌, ◌<◌, ◌≤◌, length, IfOk, IfSome};
-ghost use Rattle.machine_types.specs.Permission.{left_by};
+ghost use Rattle.tl_types.specs.Permission.{left_by};
 ghost use Rattle.directory.specs.Lines.{known_at};
 ghost use Rattle.directory.specs.Directory.{AnswersHarts, opening, line_at, acquired, probe_acked, released, grant_acked};
 
 use crate::answer::{Acquired, Grant, Known, Transaction};
 use crate::entry::{Entry, Slot};
-use machine_types::{Change, Grow, Perm, Ticks};
 use std::alloc::{AllocError, Global};
 use std::marker::Model;
 use std::sync::ledger::Ledger;
+use tl_types::{Change, Grow, Perm, Ticks};
 
 /// What the manager notes of each line, one entry a line. Lines go by their place in memory, from 0.
 /// No call but `new` takes memory, and each looks at one line's entry at most.

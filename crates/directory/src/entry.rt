@@ -1,6 +1,6 @@
 //! One line's entry: masks of harts, and what each message makes of them.
 ghost use Rattle.std.specs.Prelude.{◌≡◌, ◌≢◌, ◌+◌, ◌<◌, ◌≤◌, ℕ, None, not, ◌&&◌, nat_eq, IfSome, IsTrue};
-ghost use Rattle.machine_types.specs.Permission.{left_by};
+ghost use Rattle.tl_types.specs.Permission.{left_by};
 ghost use Rattle.directory.specs.Harts.{has, harts_below};
 ghost use Rattle.directory.specs.Lines.{known_at, conflicts, probe_cap, needs_data, probed, grant_for, granting, acquired, acquired_by, answered_in, acknowledged, probe_acked, released, grant_acked};
 ghost use Rattle.directory.specs.Directory.{AnswersHarts, quiet};
@@ -8,8 +8,8 @@ ghost use Rattle.directory.specs.Entries.{perm_of, known_of, notes_of_entry, oth
 
 use crate::answer::{Acquired, Grant, Known, Sent, Transaction};
 use crate::harts::HartSet;
-use machine_types::{Cap, Change, Grow, Perm, Ticks};
 use std::sync::ledger::Ledger;
+use tl_types::{Cap, Change, Grow, Perm, Ticks};
 
 /// Who has a line and where its transaction stands, in a few bytes. The owner is the hart whose record
 /// is Trunk; the sharers but the owner are those whose record is Branch.

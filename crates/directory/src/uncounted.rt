@@ -1,14 +1,14 @@
 //! The directory's calls for those who count no looks.
 ghost use Rattle.std.specs.Prelude.{◌≡◌, ◌≢◌, ◌<◌, length, IfSome};
-ghost use Rattle.machine_types.specs.Permission.{left_by};
+ghost use Rattle.tl_types.specs.Permission.{left_by};
 ghost use Rattle.directory.specs.Lines.{known_at};
 ghost use Rattle.directory.specs.Directory.{AnswersHarts, line_at, acquired, probe_acked, released, grant_acked};
 
 use crate::answer::{Acquired, Grant, Known, Transaction};
 use crate::directory::Directory;
-use machine_types::{Change, Grow, Perm, Ticks};
 use std::marker::Brand;
 use std::sync::ledger::{Blank, Ledger};
+use tl_types::{Change, Grow, Perm, Ticks};
 
 impl Directory {
     /// What is noted of one hart for a line: its record, and whether its ProbeAck is awaited.

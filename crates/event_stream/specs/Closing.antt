@@ -24,7 +24,7 @@ use Rattle.rv32_exec.specs.declared.actions.Action.{Action}
 use Rattle.store_buffer.specs.Groups.{Groups, groups_of}
 use Rattle.store_buffer.specs.declared.entry.Entry.{Entry}
 use Rattle.text_fields.specs.Fields.{word}
-use Rattle.machine_types.specs.Line.{length_of, line_of}
+use Rattle.tl_types.specs.Line.{length_of, line_of}
 use Rattle.trace_text.specs.Traces.{status}
 use Rattle.event_stream.specs.Lines.{disassembled, unended}
 use Rattle.event_stream.specs.Outcomes.{outcome}

@@ -13,9 +13,9 @@ use Rattle.store_buffer.specs.Groups.{Groups, groups_of}
 use Rattle.store_buffer.specs.declared.entry.Entry.{Entry}
 use Rattle.text_fields.specs.Fields.{hex_byte, number, numbered, word}
 use Rattle.tilelink_channels.specs.Queues.{Waiting, queue_of}
-use Rattle.machine_types.specs.declared.message.Channel.{Channel}
-use Rattle.machine_types.specs.declared.message.Channel.TheVariants as channel
-use Rattle.machine_types.specs.declared.message.Msg.{Msg}
+use Rattle.tl_types.specs.declared.message.Channel.{Channel}
+use Rattle.tl_types.specs.declared.message.Channel.TheVariants as channel
+use Rattle.tl_types.specs.declared.message.Msg.{Msg}
 use Rattle.trace_text.specs.MessageParts.{heading}
 use Rattle.trace_text.specs.Words as words
 use Rattle.event_stream.specs.Closing.{line_address}

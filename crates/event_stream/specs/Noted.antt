@@ -8,8 +8,8 @@ use Rattle.directory.specs.declared.answer.Transaction.{Transaction}
 use Rattle.directory.specs.declared.answer.Transaction.TheVariants.{Idle, Probing, Granted}
 use Rattle.machine_model.specs.Views.{State}
 use Rattle.text_fields.specs.Fields.{number, word}
-use Rattle.machine_types.specs.declared.permission.Perm.{Perm}
-use Rattle.machine_types.specs.declared.permission.Perm.TheVariants.{Nothing, Branch, Trunk}
+use Rattle.tl_types.specs.declared.permission.Perm.{Perm}
+use Rattle.tl_types.specs.declared.permission.Perm.TheVariants.{Nothing, Branch, Trunk}
 use Rattle.trace_text.specs.Words.{grow}
 use Rattle.event_stream.specs.Closing.{line_address}
 

@@ -8,9 +8,9 @@ use Rattle.machine_model.specs.Events.Verdict.{IsBad, Keeps, IsLimited, Moves}
 use Rattle.machine_model.specs.Views.{State, node_at}
 use Rattle.machine_parts.specs.declared.errors.ApplyError.{ApplyError}
 use Rattle.machine_parts.specs.declared.errors.ApplyError.TheVariants.{BadEvent, Limit}
-use Rattle.hart.specs.declared.operation.OpId.{OpId}
-use Rattle.hart.specs.declared.logged.Logged.{Logged}
-use Rattle.hart.specs.History.{entries_of}
+use Rattle.trace_recorder.specs.declared.operation.OpId.{OpId}
+use Rattle.trace_recorder.specs.declared.logged.Logged.{Logged}
+use Rattle.trace_recorder.specs.History.{entries_of}
 use Rattle.event_stream.specs.declared.strictness.Strictness.{Strictness}
 use Rattle.event_stream.specs.declared.strictness.Strictness.TheVariants.{Lenient, Strict}
 

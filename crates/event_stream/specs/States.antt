@@ -5,8 +5,8 @@ use Rattle.std.specs.Str.{bytes_eq}
 use Rattle.backing_memory.specs.Memory.{line_data}
 use Rattle.machine_model.specs.Views.{State, line_size}
 use Rattle.text_fields.specs.Fields.{hex, word}
-use Rattle.machine_types.specs.Line.{bytes_of, length_of}
-use Rattle.machine_types.specs.declared.line.LineSize.{LineSize}
+use Rattle.tl_types.specs.Line.{bytes_of, length_of}
+use Rattle.tl_types.specs.declared.line.LineSize.{LineSize}
 use Rattle.event_stream.specs.Closing.{line_address}
 use Rattle.event_stream.specs.Holding.{held_lines}
 use Rattle.event_stream.specs.Noted.{noted_lines}

@@ -7,9 +7,9 @@ use Rattle.machine_types.specs.declared.config.Config.{Config}
 use Rattle.machine_types.specs.declared.event.Event.{Event}
 use Rattle.machine_model.specs.Views.{State, opening}
 use Rattle.text_fields.specs.Fields.{number, word, numbered}
-use Rattle.machine_types.specs.Line.{length_of}
-use Rattle.machine_types.specs.declared.line.LineSize.{LineSize}
-use Rattle.hart.specs.History.{History}
+use Rattle.tl_types.specs.Line.{length_of}
+use Rattle.tl_types.specs.declared.line.LineSize.{LineSize}
+use Rattle.trace_recorder.specs.History.{History}
 use Rattle.trace_text.specs.Scripts.{is_first_version}
 use Rattle.trace_text.specs.Traces.{image}
 use Rattle.event_stream.specs.declared.strictness.Strictness.{Strictness}

@@ -10,7 +10,7 @@ use Rattle.machine_model.specs.Events.Verdict.{Keeps}
 use Rattle.machine_model.specs.Views.{State}
 use Rattle.text_fields.specs.Pages.{Paged}
 use Rattle.text_fields.specs.Writing.{Begins}
-use Rattle.hart.specs.History.{entries_of}
+use Rattle.trace_recorder.specs.History.{entries_of}
 use Rattle.event_stream.specs.declared.errors.StreamError.{StreamError}
 use Rattle.event_stream.specs.declared.errors.StreamError.TheVariants as errors
 use Rattle.event_stream.specs.declared.report.Lengths.{Lengths}

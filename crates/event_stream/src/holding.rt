@@ -13,13 +13,13 @@ use assembly::register;
 use client_cache::{ClientCache, Held};
 use coherent_machine::Machine;
 use hart::Hart;
-use machine_types::{Channel, Msg};
 use rv32_decode::Register;
 use rv32_exec::Regs;
 use std::io::{Result, Write};
 use store_buffer::{Entry, StoreBuffer};
 use text_fields::Page;
 use tilelink_channels::Queues;
+use tl_types::{Channel, Msg};
 use trace_text::spell_message;
 
 /// A name with a number.

@@ -9,9 +9,9 @@ ghost use Rattle.trace_text.specs.Words as words;
 use crate::waits::{line_address, size_of};
 use coherent_machine::Machine;
 use directory::{Directory, Known, Transaction};
-use machine_types::{Grow, Perm};
 use std::io::{Result, Write};
 use text_fields::Page;
+use tl_types::{Grow, Perm};
 
 fn perm_name(perm: Perm) -> &'static [u8]
     ensures value { result.now ≡ noted.perm_name perm }

@@ -6,16 +6,16 @@ ghost use Rattle.machine_model.specs.Ready.{line_count};
 ghost use Rattle.text_fields.specs.Fields.{hex};
 ghost use Rattle.text_fields.specs.Pages.{HasLineRoom, Spells, size};
 ghost use Rattle.text_fields.specs.Writing.{Writes};
-ghost use Rattle.machine_types.specs.Line.{bytes_of, length_of};
+ghost use Rattle.tl_types.specs.Line.{bytes_of, length_of};
 
 use crate::holding::put_held;
 use crate::noting::put_noted;
 use crate::waits::{line_address, size_of};
 use coherent_machine::Machine;
 use machine_model::sound_always;
-use machine_types::{LineData, LineSize};
 use std::io::{Result, Write};
 use text_fields::Page;
+use tl_types::{LineData, LineSize};
 
 /// Of memory's bytes those of its line of this number.
 fn piece(size: LineSize, number: u32, bytes: &[u8]) -> &[u8]

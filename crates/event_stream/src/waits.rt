@@ -7,15 +7,16 @@ ghost use Rattle.machine_model.specs.Ready.{shape_of};
 ghost use Rattle.machine_model.specs.Views.{line_size};
 ghost use Rattle.client_cache.specs.Shape.{set_of};
 ghost use Rattle.text_fields.specs.Pages.{HasLineRoom, Spells};
-ghost use Rattle.machine_types.specs.Line.{length_of};
+ghost use Rattle.tl_types.specs.Line.{length_of};
 
 use client_cache::ClientCache;
 use coherent_machine::Machine;
 use elf_loader::BASE;
-use machine_types::{LineSize, Outcome};
+use machine_types::Outcome;
 use std::io::{Result, Write};
 use store_buffer::{Entry, StoreBuffer};
 use text_fields::Page;
+use tl_types::LineSize;
 
 /// The address that the hart's next instruction reads or writes.
 pub fn next_address(machine: &Machine, hart: usize) -> Option<u32>

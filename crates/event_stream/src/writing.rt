@@ -20,12 +20,13 @@ use crate::strictness::Strictness;
 use coherent_machine::Machine;
 use elf_loader::Image;
 use elf_symbols::Symbols;
-use hart::Trace;
 use machine_model::changes_are_counted;
-use machine_types::{Config, Event, LineSize};
+use machine_types::{Config, Event};
 use std::alloc::Global;
 use std::io::{self, Write};
 use text_fields::Page;
+use tl_types::LineSize;
+use trace_recorder::Trace;
 use trace_text::{is_first_version, put_image};
 
 fn spell_head(page: &mut Page, harts: usize, kib: u32, entry: u32, line: LineSize)

@@ -15,7 +15,7 @@ use Rattle.machine_types.specs.declared.config.Config.{Config}
 use Rattle.explore_command.proofs.Kept.{spares_more}
 use Rattle.explore_command.specs.Keeping.{FileName, IsInNamed, SparesOthers, outcome_path}
 use Rattle.explorer.specs.declared.found.Realisation.TheVariants.{Events, Limit, NoMemory, Unrealised}
-use Rattle.hart.specs.History.{History}
+use Rattle.trace_recorder.specs.History.{History}
 use Rattle.trace_text.specs.Scripts.{text}
 use Rattle.trace_text.specs.Traces.{text as trace_of}
 use Rattle.trace_text.specs.declared.script.Script.{Script as Text}

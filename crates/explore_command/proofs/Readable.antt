@@ -21,8 +21,8 @@ use Rattle.machine_types.specs.declared.config.Config.{Config}
 use Rattle.machine_model.specs.Ranges.{HasCode, HasWords, NamesPlace}
 use Rattle.machine_model.proofs.ranges.Runs.{named_in_range, runs_in_range}
 use Rattle.memory_model.specs.Traces.{are_runs_from}
-use Rattle.hart.specs.History.{History}
-use Rattle.hart.specs.declared.operation.OpId.{OpId}
+use Rattle.trace_recorder.specs.History.{History}
+use Rattle.trace_recorder.specs.declared.operation.OpId.{OpId}
 use Rattle.trace_text.specs.TraceHeads.{IsTraceHead}
 use Rattle.trace_text.specs.TraceLimits.{IsHart, IsLoaded, IsLogged, IsOperation, IsRetired, IsStatus, IsTrace}
 use Rattle.trace_text.specs.Traces.{head_of}

@@ -10,8 +10,8 @@ use Rattle.machine_types.specs.declared.event.Event.{Event}
 use Rattle.machine_types.specs.declared.outcome.Outcome.{Outcome}
 use Rattle.machine_model.specs.Views.{Node, State, node_at}
 use Rattle.tilelink_channels.specs.Queues.{queue_of}
-use Rattle.machine_types.specs.declared.message.Channel.{Channel}
-use Rattle.machine_types.specs.declared.message.Channel.TheVariants.{A, B, C, D, E}
+use Rattle.tl_types.specs.declared.message.Channel.{Channel}
+use Rattle.tl_types.specs.declared.message.Channel.TheVariants.{A, B, C, D, E}
 
 -- ---- a whole round
 

@@ -20,8 +20,8 @@ use Rattle.rv32_exec.specs.declared.actions.Action.{Action}
 use Rattle.rv32_exec.specs.declared.actions.Action.TheVariants as action
 use Rattle.store_buffer.specs.Groups.{Groups, drainable, oldest}
 use Rattle.tilelink_channels.specs.Queues.{queue_of}
-use Rattle.machine_types.specs.declared.message.Channel.{Channel}
-use Rattle.machine_types.specs.declared.message.Channel.TheVariants.{A, B, C, D, E}
+use Rattle.tl_types.specs.declared.message.Channel.{Channel}
+use Rattle.tl_types.specs.declared.message.Channel.TheVariants.{A, B, C, D, E}
 
 -- ---- the round
 

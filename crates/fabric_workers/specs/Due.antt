@@ -12,7 +12,7 @@ use Rattle.machine_model.specs.Events.{hart_of}
 use Rattle.machine_model.specs.Views.{Node, State, node_at, shape_of_config}
 use Rattle.store_buffer.specs.Groups.{drainable, oldest}
 use Rattle.tilelink_channels.specs.Queues.{queue_of}
-use Rattle.machine_types.specs.Line.{length_of}
+use Rattle.tl_types.specs.Line.{length_of}
 
 -- the lines at these addresses belong to one set of a cache
 abbrev pub AreInOneSet : Config → (one other : ℕ) → Type 0

@@ -13,9 +13,10 @@ use coherent_machine::Views;
 use elf_loader::Image;
 use hart::Hart;
 use locked_fabric::Turn;
-use machine_types::{Channel, Config, Event, Outcome};
+use machine_types::{Config, Event, Outcome};
 use rv32_exec::Action;
 use std::marker::Model;
+use tl_types::Channel;
 
 #[derive(Clone, Copy)]
 enum Place {

@@ -1,10 +1,9 @@
 //! The numbers that say how large a machine is.
 
 use elf_loader::is_memory_kib;
-use machine_types::{
-    KIB_STEP, LineSize, MAX_HARTS, MAX_KIB, MAX_SETS, MAX_WAYS, MIN_KIB, is_set_count,
-};
+use machine_types::{KIB_STEP, MAX_HARTS, MAX_KIB, MAX_SETS, MAX_WAYS, MIN_KIB, is_set_count};
 use std::fmt::{self, Display, Formatter};
+use tl_types::LineSize;
 
 /// A number of a machine's size.
 #[derive(Clone, Copy)]

@@ -9,6 +9,7 @@ ghost use Rattle.rv32_exec.specs.Width.{byte_count};
 use crate::memory::Memory;
 use crate::node::Node;
 use crate::plan::Plan;
+use amo_unit::combine;
 use hart::Retired;
 use machine_model::Deed;
 use machine_types::{MemoryModel, Outcome};
@@ -16,7 +17,7 @@ use node_plans::{
     marks_of, orders_after_stores, read_from, store_of, waits_for_stores, word_of, write_waits,
 };
 use rv32_decode::{AmoOp, Instr};
-use rv32_exec::{Call, Width, combine};
+use rv32_exec::{Call, Width};
 
 /// An instruction that a hart is about to retire.
 #[derive(Clone, Copy)]

@@ -3,7 +3,7 @@ ghost use Rattle.std.specs.Prelude.{◌≡◌, ◌<◌, if◌then◌else◌};
 ghost use Rattle.flat_machine.specs.States.{flat_of};
 ghost use Rattle.flat_model.specs.Changing as spec;
 ghost use Rattle.reservations.specs.Reservation.{without_line};
-ghost use Rattle.machine_types.specs.Line.{line_of};
+ghost use Rattle.tl_types.specs.Line.{line_of};
 
 use crate::node::Node;
 use crate::state::State;

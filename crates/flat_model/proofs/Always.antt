@@ -29,7 +29,7 @@ use Rattle.machine_model.proofs.order.Events.{fresh, order_kept}
 use Rattle.machine_model.proofs.ready.Always.{after_one_more, ready_always, sound_always}
 use Rattle.machine_model.proofs.runs.Runs.{runs_always}
 use Rattle.machine_model.proofs.coherence.WorldSlots.{reserved_is_trunk_always}
-use Rattle.hart.specs.History.{History}
+use Rattle.trace_recorder.specs.History.{History}
 
 -- ---- one event
 

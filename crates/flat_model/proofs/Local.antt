@@ -30,7 +30,7 @@ use Rattle.machine_types.specs.declared.model.MemoryModel.{MemoryModel}
 use Rattle.rv32_decode.specs.Rows.{decoded}
 use Rattle.rv32_decode.specs.declared.instruction.Instr.{Instr}
 use Rattle.rv32_exec.specs.Meaning.{Private, access_of, stop_of}
-use Rattle.hart.specs.History.{History, with_entry}
+use Rattle.trace_recorder.specs.History.{History, with_entry}
 
 -- ---- one step of a private instruction
 

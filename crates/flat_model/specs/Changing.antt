@@ -18,8 +18,8 @@ use Rattle.rv32_decode.specs.declared.instruction.Instr.{Instr}
 use Rattle.store_buffer.specs.ByteMask.{marks_of_access}
 use Rattle.store_buffer.specs.Entry.{entry_of}
 use Rattle.store_buffer.specs.Groups.{Groups, after_seal, after_take, oldest}
-use Rattle.machine_types.specs.Line.{line_of}
-use Rattle.hart.specs.History.{entries_of, with_entry, with_performed, with_status}
+use Rattle.tl_types.specs.Line.{line_of}
+use Rattle.trace_recorder.specs.History.{entries_of, with_entry, with_performed, with_status}
 
 -- ---- the access of a line
 

@@ -8,8 +8,8 @@ use Rattle.hart.specs.Run.{at_reset}
 use Rattle.machine_types.specs.declared.config.Config.{Config}
 use Rattle.store_buffer.specs.ByteMask.{each_place, is_marked}
 use Rattle.store_buffer.specs.Groups.{Groups, no_groups}
-use Rattle.hart.specs.History as history
-use Rattle.hart.specs.History.{History}
+use Rattle.trace_recorder.specs.History as history
+use Rattle.trace_recorder.specs.History.{History}
 
 -- what belongs to one hart: the numbers that it put out, its reserved word, and the stores that wait
 pub record FlatNode : Type 0 where

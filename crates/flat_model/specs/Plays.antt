@@ -12,7 +12,7 @@ use Rattle.machine_types.specs.declared.outcome.Outcome.TheVariants.{MustDrain, 
 use Rattle.machine_model.specs.Words.{number_of_bytes}
 use Rattle.memory_model.specs.Examples.{bytes_of_words}
 use Rattle.machine_types.specs.declared.model.MemoryModel.TheVariants.{Rvwmo}
-use Rattle.machine_types.specs.declared.line.LineSize.TheVariants.{Bytes16}
+use Rattle.tl_types.specs.declared.line.LineSize.TheVariants.{Bytes16}
 
 -- ---- two harts that run one program, over lines of 16 bytes in one set
 

@@ -8,7 +8,7 @@ use Rattle.flat_model.specs.declared.results.HartResult.{HartResult}
 use Rattle.hart.specs.declared.status.Status.{Status}
 use Rattle.machine_model.specs.Views.{Node, State, node_at}
 use Rattle.memory_model.specs.Traces.{last_performed}
-use Rattle.hart.specs.History.{History}
+use Rattle.trace_recorder.specs.History.{History}
 
 -- a hart's pc, registers, status, output and buffer are the same, and the machine's reservation is the flat one, or none
 pub record IsShownBy (n : Node) (m : FlatNode) : Type 0 where

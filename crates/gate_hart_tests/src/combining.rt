@@ -1,7 +1,7 @@
 //! A worked row.
 use crate::same::same_of;
+use amo_unit::combine;
 use rv32_decode::AmoOp;
-use rv32_exec::combine;
 
 /// An operation, what memory holds, the other operand, and what memory then holds.
 static ROW_36: [(AmoOp, u32, u32, u32); 5] = [

@@ -1,11 +1,12 @@
 //! Each call of a trace at least once.
 use crate::same::same;
 use elf_loader::{Image, raw, size_of_kib};
-use hart::{Direction, Logged, OpId, Retired, Status, Trace, are_within_limits};
-use machine_types::{Body, LineSize, Msg};
+use hart::{Retired, Status};
 use std::alloc::Global;
 use std::process::Abort;
 use std::test::Fail;
+use tl_types::{Body, LineSize, Msg};
+use trace_recorder::{Direction, Logged, OpId, Trace, are_within_limits};
 
 static ENTRY: Retired = Retired {
     pc: 0x8000_0000,

@@ -4,10 +4,11 @@ use crate::images::image_of;
 use crate::same::{same, same_of};
 use coherent_machine::{AdoptError, ApplyError, Machine};
 use hart::{Batch, run_local};
-use machine_types::{Config, Event, LineSize, MemoryModel, Outcome};
+use machine_types::{Config, Event, MemoryModel, Outcome};
 use std::alloc::Global;
 use std::process::Abort;
 use std::test::Fail;
+use tl_types::LineSize;
 
 /// Two private instructions, then a store.
 const TWO_AND_A_STORE: [u32; 3] = [0x80000637, 0x00100693, 0x10d62023];

@@ -8,12 +8,10 @@ use crate::images::image_of;
 use crate::same::{same, same_of};
 use coherent_machine::{AdoptError, ApplyError, Machine, Views};
 use elf_loader::Image;
-use hart::{Direction, Hart, Logged, OpId, Retired, Status, Trace, run_local};
+use hart::{Hart, Retired, Status, run_local};
 use journalled_fabric::{Fabric, Share};
 use locked_fabric::{Port, Turn, Visit};
-use machine_types::{
-    Body, Cap, Channel, Config, Event, Grow, LineData, LineSize, MemoryModel, Msg, Outcome,
-};
+use machine_types::{Config, Event, MemoryModel, Outcome};
 use progress_board::{Board, Seat};
 use std::alloc::Global;
 use std::marker::Brand;
@@ -23,6 +21,8 @@ use std::sync::{Mutex, Wait};
 use std::test::Fail;
 use std::thread;
 use std::thread::Threads;
+use tl_types::{Body, Cap, Channel, Grow, LineData, LineSize, Msg};
+use trace_recorder::{Direction, Logged, OpId, Trace};
 
 /// Puts 5 into x10, and ends with it.
 const ROW_1: [u32; 2] = [0x00500513, 0x00000073];

@@ -3,10 +3,10 @@
 use crate::images::image_of;
 use crate::same::same;
 use coherent_machine::{Views, replay};
-use hart::{Status, Trace};
+use hart::Status;
 use host_threads::{Gate, Report, RunError, run, run_with};
 use locked_fabric::Turn;
-use machine_types::{Channel, Config, Event, LineSize, MemoryModel, Outcome};
+use machine_types::{Config, Event, MemoryModel, Outcome};
 use std::alloc::Global;
 use std::process::Abort;
 use std::sync::Wait;
@@ -14,6 +14,8 @@ use std::sync::atomic::{AtomicBool, AtomicU64, Ordering};
 use std::test::Fail;
 use std::thread;
 use std::thread::Threads;
+use tl_types::{Channel, LineSize};
+use trace_recorder::Trace;
 
 /// More events than any run here takes.
 const LIMIT: u64 = 1_000_000_000;

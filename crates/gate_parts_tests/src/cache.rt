@@ -5,8 +5,8 @@ mod sets;
 
 use crate::same::{same, same_of};
 use client_cache::{ClientCache, Evict, Held, Probed, Want};
-use machine_types::{Cap, Change, Grow, LineData, LineSize, Perm};
 use std::process::Abort;
+use tl_types::{Cap, Change, Grow, LineData, LineSize, Perm};
 
 const X: u32 = 0x8000_0100;
 

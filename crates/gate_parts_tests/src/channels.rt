@@ -1,8 +1,8 @@
 //! Queues in the order of sending, and how many messages each holds in the worked rows.
 use crate::same::{same, same_of};
-use machine_types::{Body, Cap, Change, Channel, Grow, LineData, Msg};
 use std::process::Abort;
 use tilelink_channels::{Queues, room};
+use tl_types::{Body, Cap, Change, Channel, Grow, LineData, Msg};
 
 const X: u32 = 0x8000_0100;
 

@@ -3,8 +3,8 @@
 use crate::same::same;
 use backing_memory::Memory;
 use elf_loader::{Image, raw, size_of_kib};
-use machine_types::{LineData, LineSize};
 use std::process::Abort;
+use tl_types::{LineData, LineSize};
 
 /// The bytes of line `i`, which has to be there.
 fn line_of(rt: &impl Abort, memory: &Memory, i: u32) -> LineData {

@@ -2,12 +2,10 @@
 ghost use Rattle.std.specs.Prelude.{◌≡◌, ◌<◌};
 
 use crate::same::{same, same_of};
-use machine_types::{
-    Body, Cap, Change, Channel, Grow, LineData, LineSize, Msg, Perm, Ticks, shrink,
-};
 use std::marker::Brand;
 use std::mem::size_of;
 use std::sync::ledger::{Blank, Ledger};
+use tl_types::{Body, Cap, Change, Channel, Grow, LineData, LineSize, Msg, Perm, Ticks, shrink};
 
 /// TileLink 1.8.1, "Permissions transitions": what is held, the Probe, what is left, the change.
 static SHRINK: [(Perm, Cap, Perm, Change); 9] = [

@@ -1,13 +1,13 @@
 //! The worked rows from the manager's side: what it knows of a line, message by message.
 ghost use Rattle.std.specs.Prelude.{◌≡◌, ◌≢◌, ◌<◌, length};
-ghost use Rattle.machine_types.specs.Permission.{left_by};
+ghost use Rattle.tl_types.specs.Permission.{left_by};
 
 use crate::same::{same, same_of};
 use directory::{Acquired, Directory, Grant, HartSet, Known, Sent, Transaction};
-use machine_types::{Cap, Change, Grow, Perm};
 use std::alloc::Global;
 use std::process::Abort;
 use std::test::Fail;
+use tl_types::{Cap, Change, Grow, Perm};
 
 const X: u32 = 16;
 

@@ -1,6 +1,6 @@
 use crate::same::{same, same_of};
-use machine_types::LineSize;
 use reservations::*;
+use tl_types::LineSize;
 
 /// The size and the address of a line that is lost, a reserved word, and whether it stays so.
 static LOST: [(LineSize, u32, u32, bool); 6] = [

@@ -8,11 +8,11 @@ ghost use Rattle.rvwmo_order.specs.Scans.{judged};
 
 use crate::judging::judge;
 use crate::orders::is_order;
-use hart::{OpId, Trace};
 use machine_types::MemoryModel;
 use rvwmo_order::{CheckError, Verdict};
 use std::alloc::{AllocError, Global};
 use trace_operations::{Harts, are_runs, has_too_many, names_in, operations_at};
+use trace_recorder::{OpId, Trace};
 
 /// Whether an order of the operations of a trace is legal under a memory model.
 pub fn check_model(

@@ -3,9 +3,9 @@ ghost use Rattle.std.specs.Prelude.{◌≡◌, ◌&&◌, IfOk};
 ghost use Rattle.std.specs.List.{list_all};
 ghost use Rattle.memory_model.specs.Traces as spec;
 
-use hart::{OpId, Trace};
 use std::alloc::{AllocError, Global};
 use trace_operations::names_in;
+use trace_recorder::{OpId, Trace};
 
 fn is_named(a: OpId, b: OpId) -> bool
     ensures { result ≡ spec.is_named a b }

@@ -9,12 +9,13 @@ use coherent_machine::Machine;
 use elf_loader::Image;
 use flat_model::FlatEvent;
 use gate_plain_machine::{FlatMachine, Variant};
-use hart::{OpId, Retired, Trace};
+use hart::Retired;
 use machine_types::{Config, Event, MAX_HARTS, Outcome};
 use rv32_exec::Action;
 use same::difference_of;
 use std::alloc::Global;
 use std::fmt;
+use trace_recorder::{OpId, Trace};
 use written::Written;
 
 /// What the flat machine makes of an SC that fails in the machine though its flat reservation stands.

@@ -10,11 +10,12 @@ mod views;
 use crate::numbers::Numbers;
 use anyhow::{Result, bail, ensure};
 use flat::every_flat_event;
-use machine_types::{Channel, Event, MemoryModel};
+use machine_types::{Event, MemoryModel};
 use met::Met;
 use pair::Pair;
 use std::alloc::Global;
 use std::io::Write;
+use tl_types::Channel;
 
 /// The word that the programs load and store, at the beginning of its line.
 const WORD: u32 = 0x8000_0100;

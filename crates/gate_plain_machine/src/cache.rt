@@ -2,8 +2,9 @@
 
 use crate::deciding::{Act, Plan};
 use crate::words::{Marks, line_of, lines_below, write_word};
-use machine_types::{Cap, Config, Grow, LineData, Outcome, Perm};
+use machine_types::{Config, Outcome};
 use std::alloc::AllocError;
+use tl_types::{Cap, Grow, LineData, Perm};
 
 /// Acquires that may be outstanding, and Releases that may be unanswered.
 const TRACKERS: usize = 4;

@@ -5,9 +5,9 @@ use crate::deciding::{Act, Deed};
 use crate::hart_state::perform;
 use crate::state::PlainMachine;
 use hart::{Retired, Status};
-use machine_types::{Body, Cap, Grow, Msg, Perm, shrink};
 use rv32_decode::Instr;
 use std::alloc::AllocError;
+use tl_types::{Body, Cap, Grow, Msg, Perm, shrink};
 
 impl PlainMachine {
     /// Where the instruction's operation is performed it is so first, and what it writes at once goes to the

@@ -2,8 +2,9 @@
 
 use crate::buffer::Store;
 use hart::{Retired, Status};
-use machine_types::{Grow, Msg, Outcome};
+use machine_types::Outcome;
 use rv32_decode::Instr;
+use tl_types::{Grow, Msg};
 
 /// What an event comes to.
 #[derive(Clone, Copy)]

@@ -4,8 +4,9 @@ use crate::cache::Known;
 use crate::deciding::{Act, Plan};
 use crate::notes::{Noted, Transaction, conflicts};
 use crate::state::{Node, PlainMachine};
-use machine_types::{Body, Cap, Change, Channel, Grow, LineData, Msg, Outcome, Perm, shrink};
+use machine_types::Outcome;
 use std::alloc::AllocError;
+use tl_types::{Body, Cap, Change, Channel, Grow, LineData, Msg, Perm, shrink};
 
 /// How many GrantAcks may wait.
 const ROOM_OF_E: usize = 4;

@@ -4,10 +4,11 @@ use crate::buffer::Groups;
 use crate::deciding::{Act, Deed, Plan};
 use crate::steps::{after_instr, next_alone};
 use elf_loader::Image;
-use hart::{Hart, OpId, Retired};
+use hart::{Hart, Retired};
 use machine_types::{Config, MemoryModel, Outcome};
 use rv32_decode::Instr;
 use std::alloc::{AllocError, Global};
+use trace_recorder::OpId;
 
 /// A hart's operations at these places of its list are performed, one behind another.
 pub(crate) fn perform(

@@ -1,6 +1,6 @@
 //! What the manager notes of one line.
 
-use machine_types::{Grow, Perm};
+use tl_types::{Grow, Perm};
 
 /// What is noted of a hart.
 #[derive(Clone, Copy)]

@@ -1,7 +1,7 @@
 //! The messages that wait between one hart's cache and the manager.
 
-use machine_types::{Channel, Msg};
 use std::alloc::Global;
+use tl_types::{Channel, Msg};
 
 /// A list for each channel, the first sent in front.
 #[derive(Drop)]

@@ -6,10 +6,12 @@ use crate::notes::Notes;
 use crate::queues::Waiting;
 use crate::words::{bytes_at, lines_below};
 use elf_loader::{BASE, Image};
-use hart::{Direction, Logged, OpId, Retired, Status, Trace, are_within_limits};
-use machine_types::{Config, LineData, LineSize, Msg, Perm};
+use hart::{Retired, Status};
+use machine_types::Config;
 use std::alloc::{AllocError, Global};
 use std::mem::replace;
+use tl_types::{LineData, LineSize, Msg, Perm};
+use trace_recorder::{Direction, Logged, OpId, Trace, are_within_limits};
 
 /// What belongs to one hart.
 #[derive(Drop)]

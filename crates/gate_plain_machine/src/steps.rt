@@ -4,12 +4,13 @@ use crate::buffer::Groups;
 use crate::deciding::{Act, Deed, Plan};
 use crate::hart_state::HartState;
 use crate::words::{read_from, store_of, word_of, write_word};
+use amo_unit::combine;
 use bitflags::Flags;
 use elf_loader::Image;
 use hart::{Hart, Retired, Status};
 use machine_types::{MemoryModel, Outcome};
 use rv32_decode::{FenceSet, Instr, Register, SystemOp, decode};
-use rv32_exec::{Action, Regs, Width, combine, finish, plan, stop};
+use rv32_exec::{Action, Regs, Width, finish, plan, stop};
 
 /// An instruction that a hart is about to retire.
 #[derive(Clone, Copy)]

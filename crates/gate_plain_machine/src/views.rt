@@ -3,7 +3,7 @@
 use crate::notes::Transaction;
 use crate::state::{Node, PlainMachine};
 use hart::Hart;
-use machine_types::{Channel, LineData, Msg, Perm};
+use tl_types::{Channel, LineData, Msg, Perm};
 
 /// What belongs to one hart of a machine.
 #[derive(Clone, Copy)]

@@ -2,8 +2,8 @@
 //! section 2.6; where it leaves the byte order open, this machine is little endian).
 
 use crate::buffer::Store;
-use machine_types::LineSize;
 use rv32_exec::Width;
+use tl_types::LineSize;
 
 /// Which of a word's four bytes, the one at its address first.
 pub(crate) type Marks = [bool; 4];

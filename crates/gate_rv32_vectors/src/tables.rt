@@ -1,7 +1,8 @@
 //! The lines of the tables. Each answers `None` where the line can't be read.
 
+use amo_unit::combine;
 use rv32_decode::{AmoOp, Instr, Register, decode, encode};
-use rv32_exec::{Action, Regs, Width, combine, finish, plan};
+use rv32_exec::{Action, Regs, Width, finish, plan};
 use std::str::Split;
 
 /// The tables, by what their lines are about.

@@ -3,9 +3,10 @@
 use elf_loader::{Image, raw, size_of_kib};
 use flat_model::HartResult;
 use hart::Status;
-use machine_types::{Config, LineSize, MemoryModel};
+use machine_types::{Config, MemoryModel};
 use std::alloc::Global;
 use std::test::Fail;
+use tl_types::LineSize;
 
 pub const X: u32 = 0x8000_0100;
 

@@ -8,11 +8,12 @@ use crate::programs::{
 use crate::same::{same, same_of};
 use flat_model::FlatEvent;
 use hart::Status;
-use machine_types::{Channel, Config, Event};
+use machine_types::{Config, Event};
 use schedules::{RealiseError, Schedule, realise, sample};
 use std::alloc::{AllocError, Global};
 use std::process::Abort;
 use std::test::Fail;
+use tl_types::Channel;
 
 /// The word behind X's line: the flag of `MESSAGE_PASSING`, the counter of `SPIN_LOCK`.
 const BEHIND_X: u32 = 0x8000_0140;

@@ -8,11 +8,12 @@ use crate::same::same;
 use coherent_machine::{Machine, replay};
 use flat_model::{FlatEvent, HartResult};
 use hart::Status;
-use machine_types::{Channel, Event};
+use machine_types::Event;
 use schedules::{Goal, HartResults, Schedule, shorten};
 use std::alloc::{AllocError, Global};
 use std::process::Abort;
 use std::test::Fail;
+use tl_types::Channel;
 
 const STEP: Event = Event::Step { hart: 0 };
 

@@ -4,13 +4,14 @@ mod plain;
 use crate::same::same;
 use crate::streams::image_of;
 use elf_loader::Image;
-use hart::{OpId, Retired, Status, Trace, are_within_limits};
-use machine_types::LineSize;
+use hart::{Retired, Status};
 use rvwmo_order::{CheckError, Verdict, check};
 use std::alloc::{AllocError, Global};
 use std::process::Abort;
 use std::test::Fail;
+use tl_types::LineSize;
 use trace_operations::completed;
+use trace_recorder::{OpId, Trace, are_within_limits};
 
 /// `lui a2, 0x80000`, `sw a3, 0x100(a2)` and a jump back to the store.
 const PROGRAM: [u32; 3] = [0x8000_0637, 0x10d6_2023, 0xffdf_f06f];

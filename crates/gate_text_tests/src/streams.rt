@@ -6,12 +6,13 @@ use crate::writers::Narrow;
 use elf_loader::{Image, raw, size_of_kib};
 use elf_symbols::Symbols;
 use event_stream::{StreamError, Strictness, write_stream};
-use machine_types::{Channel, Config, Event, LineSize, MemoryModel};
+use machine_types::{Config, Event, MemoryModel};
 use std::alloc::Global;
 use std::fmt::Debug;
 use std::io::Write;
 use std::process::Abort;
 use std::test::Fail;
+use tl_types::{Channel, LineSize};
 
 const STEP: Event = Event::Step { hart: 0 };
 

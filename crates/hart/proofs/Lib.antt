@@ -2,4 +2,3 @@ pub mod Endings
 pub mod Rows
 pub mod Alone
 pub mod Fetches
-pub mod Lists

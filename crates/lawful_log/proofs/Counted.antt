@@ -10,11 +10,11 @@ use Rattle.lawful_log.specs.Facts.{CanCount, HaveRoom, counted, counted_as, goes
 use Rattle.lawful_log.specs.Followed.{grows_given}
 use Rattle.lawful_log.specs.declared.tallies.Tallies.{Tallies}
 use Rattle.lawful_log.specs.declared.tallies.Tally.{Tally}
-use Rattle.machine_types.specs.declared.message.Body.{Body}
-use Rattle.machine_types.specs.declared.message.Body.TheVariants.{AcquireBlock, ProbeBlock, ProbeAck, ProbeAckData, Release, ReleaseData, Grant, GrantData, ReleaseAck, GrantAck}
-use Rattle.hart.specs.declared.logged.Direction.{Direction}
-use Rattle.hart.specs.declared.logged.Direction.TheVariants.{Sent, Taken}
-use Rattle.hart.specs.declared.logged.Logged.{Logged}
+use Rattle.tl_types.specs.declared.message.Body.{Body}
+use Rattle.tl_types.specs.declared.message.Body.TheVariants.{AcquireBlock, ProbeBlock, ProbeAck, ProbeAckData, Release, ReleaseData, Grant, GrantData, ReleaseAck, GrantAck}
+use Rattle.trace_recorder.specs.declared.logged.Direction.{Direction}
+use Rattle.trace_recorder.specs.declared.logged.Direction.TheVariants.{Sent, Taken}
+use Rattle.trace_recorder.specs.declared.logged.Logged.{Logged}
 
 -- ---- tallies
 

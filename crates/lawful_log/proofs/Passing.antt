@@ -14,7 +14,7 @@ use Rattle.lawful_log.specs.declared.followed.Followed.{Followed}
 use Rattle.lawful_log.specs.declared.rule.LogRule.{LogRule}
 use Rattle.lawful_log.specs.declared.rule.LogRule.TheVariants.{InOrder}
 use Rattle.lawful_log.specs.declared.rule.LogVerdict.TheVariants.{Lawful, Unlawful}
-use Rattle.hart.specs.declared.logged.Logged.{Logged}
+use Rattle.trace_recorder.specs.declared.logged.Logged.{Logged}
 
 -- the first rule that an entry breaks behind a log
 abbrev pub BreaksFirst : List Logged → Logged → Option LogRule → Type 0

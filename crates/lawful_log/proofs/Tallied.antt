@@ -7,7 +7,7 @@ use Rattle.machine_model.specs.LawfulLog.{concerns}
 use Rattle.lawful_log.proofs.Counted.{have_room, tallies_more}
 use Rattle.lawful_log.specs.Facts.{HaveRoom, counted, tallies_of}
 use Rattle.lawful_log.specs.declared.tallies.Tallies.{Tallies}
-use Rattle.hart.specs.declared.logged.Logged.{Logged}
+use Rattle.trace_recorder.specs.declared.logged.Logged.{Logged}
 
 module _ (h line : ℕ) (log : List Logged) (i : ℕ) where
   pub have_room_so_far : (t : Tallies) → t ≡ tallies_of (concerns h line) (take i log) → i + 1 < 2 ^ 64 → HaveRoom t

@@ -9,13 +9,13 @@ use Rattle.lawful_log.proofs.Entries.{is_own_or_other}
 use Rattle.lawful_log.specs.Followed.{moved, waiting_after}
 use Rattle.lawful_log.specs.Rules.{IsFront, KeepsGoing}
 use Rattle.lawful_log.specs.declared.rule.LogRule.TheVariants.{InOrder}
-use Rattle.machine_types.specs.Message.{channel_of}
-use Rattle.machine_types.specs.declared.message.Channel.{Channel}
-use Rattle.machine_types.specs.declared.message.Channel.TheVariants.{A, B, C, D, E}
-use Rattle.machine_types.specs.declared.message.Msg.{Msg}
-use Rattle.hart.specs.declared.logged.Direction.{Direction}
-use Rattle.hart.specs.declared.logged.Direction.TheVariants.{Sent, Taken}
-use Rattle.hart.specs.declared.logged.Logged.{Logged}
+use Rattle.tl_types.specs.Message.{channel_of}
+use Rattle.tl_types.specs.declared.message.Channel.{Channel}
+use Rattle.tl_types.specs.declared.message.Channel.TheVariants.{A, B, C, D, E}
+use Rattle.tl_types.specs.declared.message.Msg.{Msg}
+use Rattle.trace_recorder.specs.declared.logged.Direction.{Direction}
+use Rattle.trace_recorder.specs.declared.logged.Direction.TheVariants.{Sent, Taken}
+use Rattle.trace_recorder.specs.declared.logged.Logged.{Logged}
 
 -- behind what was taken stands what waits
 pub front_waits : (t q s : List Msg) → t ++ q ≡ s → slice_get s (length t) ≡ slice_get q 0

@@ -4,7 +4,7 @@ use Rattle.machine_model.specs.LawfulLog.{concerns, is_grant, is_grant_ack, is_p
 use Rattle.lawful_log.specs.declared.awaited.Answer.{Answer}
 use Rattle.lawful_log.specs.declared.awaited.Answer.TheVariants.{GrantAck, ProbeAck}
 use Rattle.lawful_log.specs.declared.awaited.Awaited.{Awaited}
-use Rattle.hart.specs.declared.logged.Logged.{Logged}
+use Rattle.trace_recorder.specs.declared.logged.Logged.{Logged}
 
 abbrev pub answer_name : Answer → List ℕ
 answer_name GrantAck = codes "GrantAck"

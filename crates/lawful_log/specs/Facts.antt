@@ -7,14 +7,14 @@ use Rattle.lawful_log.specs.declared.rule.LogRule.{LogRule}
 use Rattle.lawful_log.specs.declared.rule.LogRule.TheVariants.{InOrder, Question, Permission, Data, AcquireOnce, ProbeOnce, GrantAlone, ReleaseAlone}
 use Rattle.lawful_log.specs.declared.tallies.Tallies.{Tallies}
 use Rattle.lawful_log.specs.declared.tallies.Tally.{Tally}
-use Rattle.machine_types.specs.Message.{channel_of}
-use Rattle.machine_types.specs.declared.message.Body.{Body}
-use Rattle.machine_types.specs.declared.message.Body.TheVariants.{AcquireBlock, ProbeBlock, ProbeAck, ProbeAckData, Release, ReleaseData, Grant, GrantData, ReleaseAck, GrantAck}
-use Rattle.machine_types.specs.declared.message.Msg.{Msg}
-use Rattle.machine_types.specs.declared.permission.Grow.{Grow}
-use Rattle.hart.specs.declared.logged.Direction.{Direction}
-use Rattle.hart.specs.declared.logged.Direction.TheVariants.{Sent, Taken}
-use Rattle.hart.specs.declared.logged.Logged.{Logged}
+use Rattle.tl_types.specs.Message.{channel_of}
+use Rattle.tl_types.specs.declared.message.Body.{Body}
+use Rattle.tl_types.specs.declared.message.Body.TheVariants.{AcquireBlock, ProbeBlock, ProbeAck, ProbeAckData, Release, ReleaseData, Grant, GrantData, ReleaseAck, GrantAck}
+use Rattle.tl_types.specs.declared.message.Msg.{Msg}
+use Rattle.tl_types.specs.declared.permission.Grow.{Grow}
+use Rattle.trace_recorder.specs.declared.logged.Direction.{Direction}
+use Rattle.trace_recorder.specs.declared.logged.Direction.TheVariants.{Sent, Taken}
+use Rattle.trace_recorder.specs.declared.logged.Logged.{Logged}
 
 -- ---- tallies
 

@@ -5,7 +5,7 @@ use Rattle.lawful_log.specs.Rules.{IsLawfulByEntries, Obeys, rank}
 use Rattle.lawful_log.specs.declared.rule.LogRule.{LogRule}
 use Rattle.lawful_log.specs.declared.rule.LogVerdict.{LogVerdict}
 use Rattle.lawful_log.specs.declared.rule.LogVerdict.TheVariants.{Lawful, Unlawful}
-use Rattle.hart.specs.declared.logged.Logged.{Logged}
+use Rattle.trace_recorder.specs.declared.logged.Logged.{Logged}
 
 -- a log is lawful exactly where no entry breaks a rule
 abbrev pub EntriesDecide : Type 0

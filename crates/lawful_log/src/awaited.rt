@@ -5,9 +5,9 @@ ghost use Rattle.lawful_log.specs.Awaited.{answer_name, FindsAwaited};
 ghost use Rattle.lawful_log.specs.Facts.{tallies_of};
 
 use crate::tallies::Tallies;
-use hart::Logged;
 use std::fmt;
 use std::fmt::Display;
+use trace_recorder::Logged;
 
 /// An answer that ends a line's transaction.
 #[derive(Clone, Copy, Debug, PartialEq, Eq)]

@@ -5,8 +5,8 @@ ghost use Rattle.machine_model.specs.LawfulLog.{IsLawfulLog};
 
 use crate::followed::Followed;
 use crate::rule::LogVerdict;
-use hart::Logged;
 use std::alloc::{AllocError, Global};
+use trace_recorder::Logged;
 
 /// Whether a log is lawful, and where it isn't the first entry that breaks a rule, with the first of the
 /// rules that it breaks. It goes over the log once, and looks up by line and by hart what the entries

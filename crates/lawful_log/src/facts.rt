@@ -6,7 +6,7 @@ ghost use Rattle.lawful_log.specs.Rules.{is_asked};
 
 use crate::rule::LogRule;
 use crate::tallies::Tallies;
-use machine_types::{Body, Cap, Grow};
+use tl_types::{Body, Cap, Grow};
 
 /// What a log says that the next message to be sent is judged by.
 #[derive(Clone, Copy)]

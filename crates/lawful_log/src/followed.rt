@@ -5,15 +5,15 @@ ghost use Rattle.lawful_log.specs.Followed.{Follows, IsFollowable, all_in, known
 ghost use Rattle.lawful_log.specs.Rules.{Obeys};
 ghost use Rattle.lawful_log.specs.declared.rule.LogRule.TheVariants.{InOrder};
 ghost use Rattle.machine_model.specs.LawfulLog.{concerns, is_of_line};
-ghost use Rattle.hart.specs.declared.logged.Logged.{Logged as LoggedValue};
+ghost use Rattle.trace_recorder.specs.declared.logged.Logged.{Logged as LoggedValue};
 
 use crate::lines::{LineLog, broken_by_first};
 use crate::queues::Queues;
 use crate::rule::LogRule;
 use crate::tallies::Tallies;
-use hart::{Direction, Logged};
 use std::alloc::{AllocError, Global};
 use std::collections::HashMap;
+use trace_recorder::{Direction, Logged};
 
 /// What a log says so far.
 pub(crate) struct Followed {

@@ -8,9 +8,9 @@ ghost use Rattle.machine_model.specs.LawfulLog as lawful;
 use crate::facts::Facts;
 use crate::rule::LogRule;
 use crate::tallies::Tallies;
-use hart::{Direction, Logged};
-use machine_types::{Body, Change, Grow};
 use std::alloc::{AllocError, Global};
+use tl_types::{Body, Change, Grow};
+use trace_recorder::{Direction, Logged};
 
 /// What a log says of a line.
 #[derive(Drop)]

@@ -5,13 +5,13 @@ ghost use Rattle.std.specs.Option.{option_map_or};
 ghost use Rattle.std.specs.Ordering.{nat_cmp};
 ghost use Rattle.std.specs.VecDeque.{deque_items};
 ghost use Rattle.lawful_log.specs.Followed.{moved, waiting_after, waiting_on};
-ghost use Rattle.machine_types.specs.Message.{channel_of};
-ghost use Rattle.machine_types.specs.declared.message.Channel.{Channel as ChannelValue};
+ghost use Rattle.tl_types.specs.Message.{channel_of};
+ghost use Rattle.tl_types.specs.declared.message.Channel.{Channel as ChannelValue};
 
-use hart::{Direction, Logged};
-use machine_types::{Channel, Msg};
 use std::alloc::{AllocError, Global};
 use std::collections::{BTreeMap, VecDeque};
+use tl_types::{Channel, Msg};
+use trace_recorder::{Direction, Logged};
 
 /// By channel and hart what was sent and not taken yet, the first one first.
 #[derive(Drop)]

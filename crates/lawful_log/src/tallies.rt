@@ -2,8 +2,8 @@
 ghost use Rattle.std.specs.Prelude.{◌≡◌};
 ghost use Rattle.lawful_log.specs.Facts.{CanCount, counted, goes_up, HaveRoom, no_tallies};
 
-use hart::{Direction, Logged};
-use machine_types::Body;
+use tl_types::Body;
+use trace_recorder::{Direction, Logged};
 
 /// How many messages of a kind went into their queues, and how many came out.
 #[derive(Clone, Copy, PartialEq, Eq)]

@@ -21,7 +21,7 @@ use Rattle.machine_model.specs.Views.{State, node_at}
 use Rattle.machine_parts.specs.declared.errors.ApplyError.{ApplyError}
 use Rattle.progress_board.specs.contracts.seat.Seat as seat
 use Rattle.progress_board.specs.declared.seat.Seat.{Seat}
-use Rattle.hart.specs.History.{History, entries_of}
+use Rattle.trace_recorder.specs.History.{History, entries_of}
 use Rattle.locked_fabric.specs.contracts.port.Port.{the_row}
 use Rattle.locked_fabric.specs.declared.port.Port.{Port}
 use Rattle.journalled_fabric.specs.FabricState.{FabricState, Answered, IsKept, journalled}

@@ -10,13 +10,14 @@ use crate::taken::Taken;
 use crate::taking;
 use crate::turn::{Turn, Visit};
 use coherent_machine::{AdoptError, ApplyError};
-use hart::{Batch, Hart, Status, Trace};
+use hart::{Batch, Hart, Status};
 use journalled_fabric::{Fabric, Share};
 use machine_types::{Event, Outcome};
 use progress_board::Seat;
 use std::sync::atomic::{AtomicU64, Ordering};
 use std::sync::ledger::Ledger;
 use std::sync::{Mutex, MutexGuard, Wait};
+use trace_recorder::Trace;
 
 /// How often a worker tries a lock that another holds before it sleeps. A turn is shorter than it takes to
 /// wake a thread.

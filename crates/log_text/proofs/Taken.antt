@@ -4,8 +4,8 @@ use Rattle.std.specs.Prelude.{if◌then◌else◌}
 use Rattle.std.specs.List.{cons_option}
 use Rattle.log_text.specs.Objections.{is_taken_from}
 use Rattle.machine_model.specs.LawfulLog.{taken_on}
-use Rattle.machine_types.specs.declared.message.Channel.{Channel}
-use Rattle.hart.specs.declared.logged.Logged.{Logged}
+use Rattle.tl_types.specs.declared.message.Channel.{Channel}
+use Rattle.trace_recorder.specs.declared.logged.Logged.{Logged}
 
 pub taken_counted : (c : Channel) (h : ℕ) (log : List Logged) → length (taken_on c h log) ≡ length (filter (is_taken_from c h) log)
 taken_counted c h [] = refl

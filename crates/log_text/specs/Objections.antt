@@ -4,10 +4,10 @@ use Rattle.lawful_log.specs.Awaited.{FindsAwaited}
 use Rattle.lawful_log.specs.declared.rule.LogRule.{LogRule}
 use Rattle.log_text.specs.declared.objection.Objection.{Objection}
 use Rattle.machine_model.specs.LawfulLog.{is_on, is_sent, no_release_open, sent_on, taken_on}
-use Rattle.machine_types.specs.Message.{channel_of}
-use Rattle.machine_types.specs.declared.message.Channel.{Channel}
-use Rattle.machine_types.specs.declared.message.Msg.{Msg}
-use Rattle.hart.specs.declared.logged.Logged.{Logged}
+use Rattle.tl_types.specs.Message.{channel_of}
+use Rattle.tl_types.specs.declared.message.Channel.{Channel}
+use Rattle.tl_types.specs.declared.message.Msg.{Msg}
+use Rattle.trace_recorder.specs.declared.logged.Logged.{Logged}
 
 -- what is in front of a queue: of what went into it, the first that hasn't come out
 abbrev pub front_of_queue : Channel → ℕ → List Logged → Option Msg

@@ -2,11 +2,11 @@
 ghost use Rattle.log_text.specs.Objections.{ObjectsTo};
 
 use crate::waiting::{awaits_release_ack, front_of};
-use hart::Logged;
 use lawful_log::{Awaited, LogRule, first_awaited};
-use machine_types::{Body, Cap, Change, Channel, Grow, Msg};
 use std::fmt;
 use std::fmt::Display;
+use tl_types::{Body, Cap, Change, Channel, Grow, Msg};
+use trace_recorder::Logged;
 
 /// An entry that breaks a rule of the lawful log, and what stands against it. Its text is as
 /// `GrantData 0x80000100 toT to hart 1: hart 0's GrantAck of this line wasn't taken yet`.

@@ -2,10 +2,10 @@
 ghost use Rattle.std.specs.Prelude.{◌≡◌, ◌==◌, ◌&&◌, filter, length, not};
 ghost use Rattle.log_text.specs.Objections.{front_of_queue, is_taken_from};
 ghost use Rattle.machine_model.specs.LawfulLog.{concerns, is_on, is_release, is_release_ack, no_release_open, sent_count, taken_count};
-ghost use Rattle.machine_types.specs.Message.{channel_of};
+ghost use Rattle.tl_types.specs.Message.{channel_of};
 
-use hart::{Direction, Logged};
-use machine_types::{Body, Channel, Msg};
+use tl_types::{Body, Channel, Msg};
+use trace_recorder::{Direction, Logged};
 
 /// The message in front of a queue, where each that was taken from it was the front one.
 #[tactic(auto, using(crate::proofs::Taken::taken_counted))]

@@ -13,8 +13,8 @@ use Rattle.client_cache.specs.declared.answers.Probed.TheVariants as probe
 use Rattle.client_cache.specs.declared.answers.Want.{Want}
 use Rattle.client_cache.specs.declared.answers.Want.TheVariants as want
 use Rattle.client_cache.specs.declared.held.Held.{Held}
-use Rattle.machine_types.specs.declared.permission.Cap.{Cap}
-use Rattle.machine_types.specs.declared.permission.Grow.{Grow}
+use Rattle.tl_types.specs.declared.permission.Cap.{Cap}
+use Rattle.tl_types.specs.declared.permission.Grow.{Grow}
 
 -- a test decides, and what decides it is known
 pub by_test : {X : Type 0} (P : X → Type 0) (t : Bool) (x y : X) → (t ≡ true → P x) → (t ≡ false → P y) → P (if t then x else y)

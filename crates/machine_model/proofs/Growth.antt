@@ -16,8 +16,8 @@ use Rattle.machine_model.specs.Laws.{Grows, KeepsImageAndConfig}
 use Rattle.machine_model.specs.LawfulLog.{IsBeginningOf}
 use Rattle.machine_model.specs.Views.{State, node_at, with_trace, sent}
 use Rattle.rv32_decode.specs.declared.instruction.Instr.{Instr}
-use Rattle.machine_types.specs.declared.message.Msg.{Msg}
-use Rattle.hart.specs.History.{History, entries_of, with_entry}
+use Rattle.tl_types.specs.declared.message.Msg.{Msg}
+use Rattle.trace_recorder.specs.History.{History, entries_of, with_entry}
 use Rattle.machine_model.proofs.Events.{by_event, has_moved}
 use Rattle.machine_model.proofs.Parts.{KeptByDeeds, KeptByMessages, delivered_by, does_by, drained_by, given_up_by, missed_by}
 

@@ -6,8 +6,8 @@ use Rattle.machine_model.specs.Changing.{does, missed, drained, given_up}
 use Rattle.machine_model.specs.Deliveries.{delivered, taken}
 use Rattle.machine_model.specs.Views.{no_node, Node, State, node_at, with_node, sent}
 use Rattle.machine_types.specs.declared.model.MemoryModel.{MemoryModel}
-use Rattle.machine_types.specs.declared.message.Msg.{Msg}
-use Rattle.machine_types.specs.declared.permission.Grow.{Grow}
+use Rattle.tl_types.specs.declared.message.Msg.{Msg}
+use Rattle.tl_types.specs.declared.permission.Grow.{Grow}
 use Rattle.machine_model.proofs.Parts.{KeptByDeeds, KeptByMessages, delivered_by, does_by, drained_by, given_up_by, missed_by}
 
 pub node_same : (h : ℕ) (n : Node) (s : State) → h < length s.views.nodes → node_at (with_node h n s) h ≡ n

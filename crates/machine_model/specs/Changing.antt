@@ -24,13 +24,13 @@ use Rattle.store_buffer.specs.ByteMask.{marks_of_access}
 use Rattle.store_buffer.specs.Entry.{entry_of}
 use Rattle.store_buffer.specs.Groups.{Groups, after_put, after_put_single, after_seal, after_take, oldest}
 use Rattle.store_buffer.specs.declared.entry.Store.{Store}
-use Rattle.machine_types.specs.Line.{line_of}
-use Rattle.machine_types.specs.declared.line.LineData.{LineData}
-use Rattle.machine_types.specs.declared.message.Body.{Body}
-use Rattle.machine_types.specs.declared.message.Body.TheVariants.{AcquireBlock, Release, ReleaseData}
-use Rattle.machine_types.specs.declared.permission.Change.{Change}
-use Rattle.machine_types.specs.declared.permission.Grow.{Grow}
-use Rattle.hart.specs.History.{History, entries_of, with_entry, with_performed, with_status}
+use Rattle.tl_types.specs.Line.{line_of}
+use Rattle.tl_types.specs.declared.line.LineData.{LineData}
+use Rattle.tl_types.specs.declared.message.Body.{Body}
+use Rattle.tl_types.specs.declared.message.Body.TheVariants.{AcquireBlock, Release, ReleaseData}
+use Rattle.tl_types.specs.declared.permission.Change.{Change}
+use Rattle.tl_types.specs.declared.permission.Grow.{Grow}
+use Rattle.trace_recorder.specs.History.{History, entries_of, with_entry, with_performed, with_status}
 
 -- ---- the trace
 

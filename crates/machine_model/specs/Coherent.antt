@@ -5,9 +5,9 @@ use Rattle.client_cache.specs.Held.{bytes_in, perm_of}
 use Rattle.client_cache.specs.declared.held.Held.{Held}
 use Rattle.machine_model.specs.Views.{State, line_size, node_at}
 use Rattle.memory_model.specs.Traces.{last_performed}
-use Rattle.machine_types.specs.Line.{bytes_of, length_of}
-use Rattle.machine_types.specs.declared.permission.Perm.{Perm}
-use Rattle.machine_types.specs.declared.permission.Perm.TheVariants.{Nothing, Trunk}
+use Rattle.tl_types.specs.Line.{bytes_of, length_of}
+use Rattle.tl_types.specs.declared.permission.Perm.{Perm}
+use Rattle.tl_types.specs.declared.permission.Perm.TheVariants.{Nothing, Trunk}
 
 -- the permission that a hart's cache has of a line
 abbrev pub perm_at : State → (hart line : ℕ) → Perm

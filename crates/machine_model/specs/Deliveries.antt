@@ -18,20 +18,20 @@ use Rattle.machine_types.specs.declared.outcome.Outcome.TheVariants as outcome
 use Rattle.machine_model.specs.Views.{Node, State, line_size, place_of, node_at, with_node, with_trace, sent}
 use Rattle.reservations.specs.Reservation.{without_line}
 use Rattle.tilelink_channels.specs.Queues.{front_of, popped, queue_of, room_of}
-use Rattle.machine_types.specs.Message.{channel_of}
-use Rattle.machine_types.specs.declared.line.LineData.{LineData}
-use Rattle.machine_types.specs.declared.message.Body.{Body}
-use Rattle.machine_types.specs.declared.message.Body.TheVariants.{AcquireBlock, ProbeBlock, ProbeAck, ProbeAckData, Release, ReleaseData, Grant, GrantData, ReleaseAck, GrantAck}
-use Rattle.machine_types.specs.declared.message.Channel.{Channel}
-use Rattle.machine_types.specs.declared.message.Channel.TheVariants.{E}
-use Rattle.machine_types.specs.declared.message.Msg.{Msg}
-use Rattle.machine_types.specs.declared.permission.Cap.{Cap}
-use Rattle.machine_types.specs.declared.permission.Change.{Change}
-use Rattle.machine_types.specs.declared.permission.Grow.{Grow}
-use Rattle.machine_types.specs.declared.permission.Perm.{Perm}
-use Rattle.machine_types.specs.declared.permission.Perm.TheVariants.{Nothing, Branch, Trunk}
-use Rattle.hart.specs.History.{with_logged}
-use Rattle.hart.specs.declared.logged.Direction.TheVariants.{Taken}
+use Rattle.tl_types.specs.Message.{channel_of}
+use Rattle.tl_types.specs.declared.line.LineData.{LineData}
+use Rattle.tl_types.specs.declared.message.Body.{Body}
+use Rattle.tl_types.specs.declared.message.Body.TheVariants.{AcquireBlock, ProbeBlock, ProbeAck, ProbeAckData, Release, ReleaseData, Grant, GrantData, ReleaseAck, GrantAck}
+use Rattle.tl_types.specs.declared.message.Channel.{Channel}
+use Rattle.tl_types.specs.declared.message.Channel.TheVariants.{E}
+use Rattle.tl_types.specs.declared.message.Msg.{Msg}
+use Rattle.tl_types.specs.declared.permission.Cap.{Cap}
+use Rattle.tl_types.specs.declared.permission.Change.{Change}
+use Rattle.tl_types.specs.declared.permission.Grow.{Grow}
+use Rattle.tl_types.specs.declared.permission.Perm.{Perm}
+use Rattle.tl_types.specs.declared.permission.Perm.TheVariants.{Nothing, Branch, Trunk}
+use Rattle.trace_recorder.specs.History.{with_logged}
+use Rattle.trace_recorder.specs.declared.logged.Direction.TheVariants.{Taken}
 
 -- ---- deciding
 

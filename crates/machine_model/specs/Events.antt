@@ -22,7 +22,7 @@ use Rattle.machine_model.specs.Deliveries.{plan_deliver}
 use Rattle.machine_model.specs.Steps.{plan_step}
 use Rattle.machine_model.specs.Views.{Node, State, line_size, node_at}
 use Rattle.store_buffer.specs.Groups.{drainable, has}
-use Rattle.machine_types.specs.Line.{length_of, line_of}
+use Rattle.tl_types.specs.Line.{length_of, line_of}
 
 -- ---- which events are good
 

@@ -17,14 +17,14 @@ use Rattle.machine_model.specs.LawfulLog.{IsBeginningOf, IsLawfulLog, is_grant}
 use Rattle.machine_model.specs.Views.{State, line_size, node_at, opening}
 use Rattle.memory_model.specs.Traces.{IsLegalOrder, IsOrder, are_runs, completed, is_among, is_distinct, names_in}
 use Rattle.tilelink_channels.specs.Queues.{queue_of, room_of}
-use Rattle.machine_types.specs.Line.{line_of}
-use Rattle.machine_types.specs.declared.message.Body.TheVariants.{Grant}
-use Rattle.machine_types.specs.declared.message.Channel.{Channel}
-use Rattle.machine_types.specs.declared.message.Channel.TheVariants.{D}
-use Rattle.machine_types.specs.declared.message.Msg.{Msg}
-use Rattle.machine_types.specs.declared.permission.Cap.{Cap}
-use Rattle.machine_types.specs.declared.permission.Perm.TheVariants.{Branch, Trunk}
-use Rattle.hart.specs.History.{History, entries_of}
+use Rattle.tl_types.specs.Line.{line_of}
+use Rattle.tl_types.specs.declared.message.Body.TheVariants.{Grant}
+use Rattle.tl_types.specs.declared.message.Channel.{Channel}
+use Rattle.tl_types.specs.declared.message.Channel.TheVariants.{D}
+use Rattle.tl_types.specs.declared.message.Msg.{Msg}
+use Rattle.tl_types.specs.declared.permission.Cap.{Cap}
+use Rattle.tl_types.specs.declared.permission.Perm.TheVariants.{Branch, Trunk}
+use Rattle.trace_recorder.specs.History.{History, entries_of}
 
 -- a law of every state that a list of events leads to, of an image and a configuration
 abbrev pub Always : (Initial → Config → State → Type 0) → Type 0

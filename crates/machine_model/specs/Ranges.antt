@@ -7,14 +7,14 @@ use Rattle.hart.specs.declared.status.Status.TheVariants.{Stopped, Exited}
 use Rattle.machine_model.specs.Events.{is_piece}
 use Rattle.machine_model.specs.Laws.{Always}
 use Rattle.machine_model.specs.Views.{State, line_size}
-use Rattle.machine_types.specs.Line.{bytes_of, length_of, size_of}
-use Rattle.machine_types.specs.declared.line.LineData.{LineData}
-use Rattle.machine_types.specs.declared.line.LineSize.{LineSize}
-use Rattle.machine_types.specs.declared.message.Body.{Body}
-use Rattle.machine_types.specs.declared.message.Body.TheVariants.{ProbeAckData, ReleaseData, GrantData}
-use Rattle.hart.specs.History.{History, entries_of}
-use Rattle.hart.specs.declared.logged.Logged.{Logged}
-use Rattle.hart.specs.declared.operation.OpId.{OpId}
+use Rattle.tl_types.specs.Line.{bytes_of, length_of, size_of}
+use Rattle.tl_types.specs.declared.line.LineData.{LineData}
+use Rattle.tl_types.specs.declared.line.LineSize.{LineSize}
+use Rattle.tl_types.specs.declared.message.Body.{Body}
+use Rattle.tl_types.specs.declared.message.Body.TheVariants.{ProbeAckData, ReleaseData, GrantData}
+use Rattle.trace_recorder.specs.History.{History, entries_of}
+use Rattle.trace_recorder.specs.declared.logged.Logged.{Logged}
+use Rattle.trace_recorder.specs.declared.operation.OpId.{OpId}
 
 -- an entry's numbers are of 32 bits
 pub record HasWords (entry : Retired) : Type 0 where

@@ -18,15 +18,15 @@ use Rattle.machine_model.specs.Laws.{Always, QueuesFit}
 use Rattle.machine_model.specs.Views.{State, line_size, node_at, shape_of_config}
 use Rattle.store_buffer.specs.Groups.{drainable, fits}
 use Rattle.tilelink_channels.specs.Queues.{front_of, queue_of}
-use Rattle.machine_types.specs.Line.{length_of, line_of, size_of}
-use Rattle.machine_types.specs.Message.{channel_of}
-use Rattle.machine_types.specs.Permission.{left_by}
-use Rattle.machine_types.specs.declared.message.Body.{Body}
-use Rattle.machine_types.specs.declared.message.Body.TheVariants.{ProbeAck, ProbeAckData, ReleaseData, Grant, GrantData}
-use Rattle.machine_types.specs.declared.message.Channel.{Channel}
-use Rattle.machine_types.specs.declared.message.Msg.{Msg}
-use Rattle.machine_types.specs.declared.permission.Perm.TheVariants.{Trunk}
-use Rattle.hart.specs.History.{entries_of}
+use Rattle.tl_types.specs.Line.{length_of, line_of, size_of}
+use Rattle.tl_types.specs.Message.{channel_of}
+use Rattle.tl_types.specs.Permission.{left_by}
+use Rattle.tl_types.specs.declared.message.Body.{Body}
+use Rattle.tl_types.specs.declared.message.Body.TheVariants.{ProbeAck, ProbeAckData, ReleaseData, Grant, GrantData}
+use Rattle.tl_types.specs.declared.message.Channel.{Channel}
+use Rattle.tl_types.specs.declared.message.Msg.{Msg}
+use Rattle.tl_types.specs.declared.permission.Perm.TheVariants.{Trunk}
+use Rattle.trace_recorder.specs.History.{entries_of}
 
 -- ---- how large everything is
 

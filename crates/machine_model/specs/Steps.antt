@@ -18,14 +18,14 @@ use Rattle.memory_model.specs.declared.operation.Kind.TheVariants.{Load, Store}
 use Rattle.memory_model.specs.Items.{annotations_of}
 use Rattle.memory_model.specs.Rules.{fences}
 use Rattle.reservations.specs.Reservation.{is_valid}
-use Rattle.rv32_decode.specs.Amo.{combined}
+use Rattle.amo_unit.specs.Amo.{combined}
 use Rattle.rv32_decode.specs.Rows.{decoded}
 use Rattle.rv32_decode.specs.declared.instruction.AmoOp.{AmoOp}
 use Rattle.rv32_decode.specs.declared.instruction.Instr.{Instr}
 use Rattle.rv32_exec.specs.Meaning.{Access, Private, Loads, Stores, DoesLr, DoesSc, DoesAmo, Fences, Calls, access_of}
 use Rattle.store_buffer.specs.ByteMask.{covers, laid_over, marks_of_access}
 use Rattle.store_buffer.specs.Groups.{Groups, fits, forwarded, has, has_sealed, is_empty}
-use Rattle.machine_types.specs.Line.{line_of}
+use Rattle.tl_types.specs.Line.{line_of}
 
 -- an instruction that a hart is about to retire: its word, and how many instructions stand before it in the hart's list
 pub record Fetched : Type 0 where

@@ -14,14 +14,14 @@ use Rattle.hart.specs.Run.{at_reset}
 use Rattle.machine_types.specs.declared.config.Config.{Config}
 use Rattle.store_buffer.specs.Groups.{Groups, no_groups}
 use Rattle.tilelink_channels.specs.Queues.{Waiting, none_waiting, pushed}
-use Rattle.machine_types.specs.Line.{length_of}
-use Rattle.machine_types.specs.declared.line.LineData.{LineData}
-use Rattle.machine_types.specs.declared.line.LineSize.{LineSize}
-use Rattle.machine_types.specs.declared.line.LineSize.TheVariants.{Bytes16, Bytes64}
-use Rattle.machine_types.specs.declared.message.Msg.{Msg}
-use Rattle.hart.specs.History as history
-use Rattle.hart.specs.History.{History, with_logged}
-use Rattle.hart.specs.declared.logged.Direction.TheVariants.{Sent}
+use Rattle.tl_types.specs.Line.{length_of}
+use Rattle.tl_types.specs.declared.line.LineData.{LineData}
+use Rattle.tl_types.specs.declared.line.LineSize.{LineSize}
+use Rattle.tl_types.specs.declared.line.LineSize.TheVariants.{Bytes16, Bytes64}
+use Rattle.tl_types.specs.declared.message.Msg.{Msg}
+use Rattle.trace_recorder.specs.History as history
+use Rattle.trace_recorder.specs.History.{History, with_logged}
+use Rattle.trace_recorder.specs.declared.logged.Direction.TheVariants.{Sent}
 
 -- what belongs to one hart: the numbers that it put out, its reservation, its store buffer, its cache, and the messages between its cache and the manager
 pub record Node : Type 0 where

@@ -1,9 +1,10 @@
 //! What an event changes, once it is decided on.
 
 use hart::Retired;
-use machine_types::{Grow, Msg, Outcome};
+use machine_types::Outcome;
 use rv32_decode::Instr;
 use store_buffer::Store;
+use tl_types::{Grow, Msg};
 
 /// What an event comes to, before anything changes.
 #[derive(Clone, Copy)]

@@ -9,11 +9,11 @@ use Rattle.machine_model.specs.Views.{State, line_size, node_at, place_of, sent}
 use Rattle.machine_parts.specs.Handled.{written_back}
 use Rattle.machine_parts.proofs.Rooms.{had_room}
 use Rattle.tilelink_channels.specs.Queues.{queue_of, room_of}
-use Rattle.machine_types.specs.declared.line.LineData.{LineData}
-use Rattle.machine_types.specs.declared.message.Body.TheVariants.{ReleaseAck}
-use Rattle.machine_types.specs.declared.message.Channel.TheVariants.{D}
-use Rattle.machine_types.specs.declared.message.Msg.{Msg}
-use Rattle.machine_types.specs.declared.permission.Change.{Change}
+use Rattle.tl_types.specs.declared.line.LineData.{LineData}
+use Rattle.tl_types.specs.declared.message.Body.TheVariants.{ReleaseAck}
+use Rattle.tl_types.specs.declared.message.Channel.TheVariants.{D}
+use Rattle.tl_types.specs.declared.message.Msg.{Msg}
+use Rattle.tl_types.specs.declared.permission.Change.{Change}
 
 abbrev with_parts : Notes → List LineData → State → State
 with_parts notes memory s = record s { views = record s.views { memory = memory; notes = notes } }

@@ -7,8 +7,8 @@ use Rattle.machine_parts.specs.Drains.{emptied}
 use Rattle.machine_parts.proofs.Nodes.{node_same, node_twice}
 use Rattle.store_buffer.specs.Entry.{entry_of}
 use Rattle.store_buffer.specs.Groups.{Groups, after_take, oldest}
-use Rattle.machine_types.specs.Line.{line_of}
-use Rattle.hart.specs.History.{with_performed}
+use Rattle.tl_types.specs.Line.{line_of}
+use Rattle.trace_recorder.specs.History.{with_performed}
 
 pub performs_node : (h g : ℕ) (places : List ℕ) (n : Node) (s : State) → performs h places (with_node g n s) ≡ with_node g n (performs h places s)
 performs_node h g [] n s = refl

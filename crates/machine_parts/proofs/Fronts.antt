@@ -7,9 +7,9 @@ use Rattle.machine_model.specs.Events.{is_piece}
 use Rattle.machine_model.specs.Views.{place_of}
 use Rattle.machine_model.proofs.coherence.LinePlaces.{piece, place_inside}
 use Rattle.tilelink_channels.specs.Queues.{front_of}
-use Rattle.machine_types.specs.Line.{length_of}
-use Rattle.machine_types.specs.declared.line.LineSize.{LineSize}
-use Rattle.machine_types.specs.declared.message.Msg.{Msg}
+use Rattle.tl_types.specs.Line.{length_of}
+use Rattle.tl_types.specs.declared.line.LineSize.{LineSize}
+use Rattle.tl_types.specs.declared.message.Msg.{Msg}
 
 pub front_waits : (ms : List Msg) (m : Msg) → front_of ms ≡ Some m → Contains ms m
 front_waits [] m e = cc

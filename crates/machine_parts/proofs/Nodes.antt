@@ -8,17 +8,17 @@ use Rattle.client_cache.specs.declared.answers.Probed.{Probed}
 use Rattle.directory.specs.Directory as directory
 use Rattle.directory.specs.Directory.{Notes}
 use Rattle.elf_loader.specs.Image.{Initial}
-use Rattle.hart.specs.History as history
-use Rattle.hart.specs.History.{History, with_logged}
-use Rattle.hart.specs.declared.logged.Logged.{Logged}
+use Rattle.trace_recorder.specs.History as history
+use Rattle.trace_recorder.specs.History.{History, with_logged}
+use Rattle.trace_recorder.specs.declared.logged.Logged.{Logged}
 use Rattle.machine_model.specs.Deliveries.{with_less}
 use Rattle.machine_model.specs.Views.{Node, State, no_node, node_at, opening as opening_of, opening_node, with_node, with_trace}
 use Rattle.machine_parts.specs.Lists.{KeepsLists}
 use Rattle.machine_parts.specs.Standing.{Standing}
-use Rattle.machine_types.specs.Line.{length_of}
+use Rattle.tl_types.specs.Line.{length_of}
 use Rattle.machine_types.specs.declared.config.Config.{Config}
-use Rattle.machine_types.specs.declared.line.LineData.{LineData}
-use Rattle.machine_types.specs.declared.permission.Cap.{Cap}
+use Rattle.tl_types.specs.declared.line.LineData.{LineData}
+use Rattle.tl_types.specs.declared.permission.Cap.{Cap}
 
 pub node_same : (h : ℕ) (n : Node) (s : State) → h < length s.views.nodes → node_at (with_node h n s) h ≡ n
 node_same h n s l = get_or-set_same s.views.nodes h n _ l

@@ -19,11 +19,11 @@ use Rattle.machine_model.specs.Views.{Node, State, line_size, node_at, place_of,
 use Rattle.machine_parts.specs.Handled.{count_of}
 use Rattle.machine_parts.proofs.Rooms.{had_room_in}
 use Rattle.tilelink_channels.specs.Queues.{room_of}
-use Rattle.machine_types.specs.declared.message.Body.TheVariants.{ProbeBlock}
-use Rattle.machine_types.specs.declared.message.Channel.TheVariants.{B}
-use Rattle.machine_types.specs.declared.message.Msg.{Msg}
-use Rattle.machine_types.specs.declared.permission.Cap.{Cap}
-use Rattle.machine_types.specs.declared.permission.Grow.{Grow}
+use Rattle.tl_types.specs.declared.message.Body.TheVariants.{ProbeBlock}
+use Rattle.tl_types.specs.declared.message.Channel.TheVariants.{B}
+use Rattle.tl_types.specs.declared.message.Msg.{Msg}
+use Rattle.tl_types.specs.declared.permission.Cap.{Cap}
+use Rattle.tl_types.specs.declared.permission.Grow.{Grow}
 
 -- ---- queues only grow while Probes are sent
 

@@ -5,10 +5,10 @@ use native.Mathlib.Omega.{arith}
 use Rattle.machine_model.specs.Laws.{QueuesFit}
 use Rattle.machine_model.specs.Views.{Node, State, node_at, sent, with_node}
 use Rattle.tilelink_channels.specs.Queues.{Waiting, pushed, queue_of, room_of, with_queue}
-use Rattle.machine_types.specs.Message.{channel_of}
-use Rattle.machine_types.specs.declared.message.Channel.{Channel}
-use Rattle.machine_types.specs.declared.message.Channel.TheVariants.{A, B, C, D, E}
-use Rattle.machine_types.specs.declared.message.Msg.{Msg}
+use Rattle.tl_types.specs.Message.{channel_of}
+use Rattle.tl_types.specs.declared.message.Channel.{Channel}
+use Rattle.tl_types.specs.declared.message.Channel.TheVariants.{A, B, C, D, E}
+use Rattle.tl_types.specs.declared.message.Msg.{Msg}
 
 queue-with_queue : (w : Waiting) (channel : Channel) (ms : List Msg) → queue_of (with_queue w channel ms) channel ≡ ms
 queue-with_queue w A ms = refl

@@ -8,7 +8,7 @@ use Rattle.hart.specs.Run.{after, reached}
 use Rattle.hart.specs.declared.retired.Retired.{Retired}
 use Rattle.hart.specs.declared.state.Hart.{Hart}
 use Rattle.machine_model.specs.Changing.{with_entries}
-use Rattle.hart.specs.History.{History, entries_of, with_entry}
+use Rattle.trace_recorder.specs.History.{History, entries_of, with_entry}
 
 abbrev pair : Retired → Hart → Retired × Hart
 pair entry hart = (entry, hart)

@@ -8,11 +8,11 @@ use Rattle.machine_model.specs.Events.{is_piece}
 use Rattle.machine_model.specs.Ready.{IsReadyBody, IsSound}
 use Rattle.machine_model.specs.Views.{Node, State, line_size, node_at}
 use Rattle.tilelink_channels.specs.Queues.{popped}
-use Rattle.machine_types.specs.Line.{length_of}
-use Rattle.machine_types.specs.Message.{channel_of}
-use Rattle.machine_types.specs.declared.message.Body.{Body}
-use Rattle.machine_types.specs.declared.message.Body.TheVariants.{AcquireBlock, ProbeBlock, ProbeAck, ProbeAckData, Release, ReleaseData, Grant, GrantData, ReleaseAck, GrantAck}
-use Rattle.machine_types.specs.declared.message.Msg.{Msg}
+use Rattle.tl_types.specs.Line.{length_of}
+use Rattle.tl_types.specs.Message.{channel_of}
+use Rattle.tl_types.specs.declared.message.Body.{Body}
+use Rattle.tl_types.specs.declared.message.Body.TheVariants.{AcquireBlock, ProbeBlock, ProbeAck, ProbeAckData, Release, ReleaseData, Grant, GrantData, ReleaseAck, GrantAck}
+use Rattle.tl_types.specs.declared.message.Msg.{Msg}
 use Rattle.machine_parts.specs.Handled.{HasLine}
 use Rattle.machine_parts.proofs.Fronts.{from_base, noted_line}
 use Rattle.machine_parts.proofs.Nodes.{node_same}

@@ -4,7 +4,7 @@ use Rattle.client_cache.specs.Cache.{word_written}
 use Rattle.machine_model.specs.Views.{Node}
 use Rattle.store_buffer.specs.Entry.{entry_of}
 use Rattle.store_buffer.specs.Groups.{after_take, oldest}
-use Rattle.machine_types.specs.Line.{line_of}
+use Rattle.tl_types.specs.Line.{line_of}
 
 -- the word's entry has left the oldest group, and is written to the copy
 abbrev pub emptied : ℕ → Node → Node

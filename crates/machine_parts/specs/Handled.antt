@@ -7,10 +7,10 @@ use Rattle.directory.specs.declared.answer.Sent.TheVariants.{Probes, Granting}
 use Rattle.elf_loader.specs.Size.{base}
 use Rattle.machine_model.specs.Deliveries.{with_less}
 use Rattle.machine_model.specs.Views.{State, line_size, node_at, place_of, with_node}
-use Rattle.machine_types.specs.Line.{size_of}
-use Rattle.machine_types.specs.declared.line.LineData.{LineData}
-use Rattle.machine_types.specs.declared.line.LineSize.{LineSize}
-use Rattle.machine_types.specs.declared.permission.Cap.{Cap}
+use Rattle.tl_types.specs.Line.{size_of}
+use Rattle.tl_types.specs.declared.line.LineData.{LineData}
+use Rattle.tl_types.specs.declared.line.LineSize.{LineSize}
+use Rattle.tl_types.specs.declared.permission.Cap.{Cap}
 
 -- the line that begins at this address is one of memory's, with as many bytes as each, and the manager has notes of it
 pub record HasLine (line : ℕ) (s : State) : Type 0 where

@@ -5,7 +5,7 @@ use Rattle.machine_model.specs.declared.act.Act.TheVariants as act
 use Rattle.machine_model.specs.Views.{State, node_at}
 use Rattle.store_buffer.specs.Entry.{entry_of}
 use Rattle.store_buffer.specs.Groups.{oldest}
-use Rattle.hart.specs.History.{Room}
+use Rattle.trace_recorder.specs.History.{Room}
 
 pub record Needs : Type 0 where
   pub entries : ℕ

@@ -16,16 +16,16 @@ use Rattle.machine_model.specs.Views.{State, line_size, opening}
 use Rattle.machine_model.proofs.coherence.LinePlaces.{IsPiece, piece}
 use Rattle.machine_model.proofs.ranges.Log.{in_range_always}
 use Rattle.machine_model.proofs.ready.Always.{sound_always}
-use Rattle.machine_types.specs.Line.{length_of}
-use Rattle.machine_types.specs.declared.line.LineData.{LineData}
-use Rattle.machine_types.specs.declared.line.LineData.TheVariants as lines
-use Rattle.machine_types.specs.declared.line.LineSize.{LineSize}
-use Rattle.machine_types.specs.declared.line.LineSize.TheVariants as sizes
-use Rattle.machine_types.specs.declared.message.Body.{Body}
-use Rattle.machine_types.specs.declared.message.Body.TheVariants.{AcquireBlock, ProbeBlock, ProbeAck, ProbeAckData, Release, ReleaseData, Grant, GrantData, ReleaseAck, GrantAck}
-use Rattle.hart.specs.History.{History}
-use Rattle.hart.specs.declared.logged.Logged.{Logged}
-use Rattle.hart.specs.declared.operation.OpId.{OpId}
+use Rattle.tl_types.specs.Line.{length_of}
+use Rattle.tl_types.specs.declared.line.LineData.{LineData}
+use Rattle.tl_types.specs.declared.line.LineData.TheVariants as lines
+use Rattle.tl_types.specs.declared.line.LineSize.{LineSize}
+use Rattle.tl_types.specs.declared.line.LineSize.TheVariants as sizes
+use Rattle.tl_types.specs.declared.message.Body.{Body}
+use Rattle.tl_types.specs.declared.message.Body.TheVariants.{AcquireBlock, ProbeBlock, ProbeAck, ProbeAckData, Release, ReleaseData, Grant, GrantData, ReleaseAck, GrantAck}
+use Rattle.trace_recorder.specs.History.{History}
+use Rattle.trace_recorder.specs.declared.logged.Logged.{Logged}
+use Rattle.trace_recorder.specs.declared.operation.OpId.{OpId}
 use Rattle.machine_traces.specs.MachineTraces.{EveryTraceHasAText}
 use Rattle.trace_text.specs.TraceHeads.{IsTraceHead}
 use Rattle.trace_text.specs.TraceLimits.{IsBody, IsData, IsHart, IsLoaded, IsLogged, IsOperation, IsRetired, IsStatus}

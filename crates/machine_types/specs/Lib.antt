@@ -1,5 +1,1 @@
 pub mod Config
-pub mod Line
-pub mod Message
-pub mod Permission
-pub mod Shrink

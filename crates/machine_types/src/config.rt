@@ -3,8 +3,8 @@ ghost use Rattle.std.specs.Prelude.{◌≡◌, false, IfSome, IsNone, IsTrue};
 ghost use Rattle.machine_types.specs.Config.{is_set_count, is_within_limits};
 
 use crate::limits::{MAX_HARTS, MAX_SETS, MAX_WAYS};
-use crate::line::LineSize;
 use crate::model::MemoryModel;
+use tl_types::LineSize;
 
 /// The parts of a machine and the memory model that it keeps, within the limits.
 #[derive(Clone, Copy, Debug, PartialEq, Eq)]

@@ -1,6 +1,6 @@
 //! What happens to a machine.
 
-use crate::message::Channel;
+use tl_types::Channel;
 
 /// One atomic step of the machine. Harts are counted from 0.
 #[derive(Clone, Copy, Debug, PartialEq, Eq)]

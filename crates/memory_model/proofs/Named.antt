@@ -12,8 +12,8 @@ use Rattle.rv32_exec.specs.Meaning.{Access, Private, Loads, Stores, DoesLr, Does
 use Rattle.hart.specs.declared.retired.Retired.{Retired}
 use Rattle.hart.specs.declared.state.Hart.{Hart}
 use Rattle.hart.specs.Run.{after, after_instr, at_reset}
-use Rattle.hart.specs.History.{History}
-use Rattle.hart.specs.declared.operation.OpId.{OpId}
+use Rattle.trace_recorder.specs.History.{History}
+use Rattle.trace_recorder.specs.declared.operation.OpId.{OpId}
 use Rattle.memory_model.specs.declared.operation.Operation.{Operation}
 use Rattle.memory_model.specs.Operations.{same}
 use Rattle.memory_model.specs.Items.{Item, operation_of_access, succeeded, operation_of_entry, annotations_of, items_from, items_of_harts, has_operation}

@@ -13,7 +13,7 @@ use Rattle.rv32_exec.specs.Meaning.{access_of}
 use Rattle.hart.specs.declared.retired.Retired.{Retired}
 use Rattle.hart.specs.declared.state.Hart.{Hart}
 use Rattle.hart.specs.Run.{after, at_reset}
-use Rattle.hart.specs.declared.operation.OpId.{OpId}
+use Rattle.trace_recorder.specs.declared.operation.OpId.{OpId}
 use Rattle.memory_model.specs.Items.{Item, annotations_of, succeeded, operation_of_access, operation_of_entry, items_from, items_of_harts, accesses_memory, has_operation}
 use Rattle.memory_model.specs.Traces.{is_named, is_among, names_from, names_of_harts}
 use Rattle.memory_model.specs.Laws.{EntriesTellOperations, NamesFindOperations}

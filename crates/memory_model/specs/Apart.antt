@@ -1,7 +1,7 @@
 -- The atomicity axiom as a reader expects it (RISC-V Unprivileged ISA 20191213, chapter 14.1, "Memory Model Axioms").
 use Rattle.std.specs.Prelude.{ℕ, ◌≡◌, ◌↔◌, List, Option, Some, None, IsTrue, Contains}
-use Rattle.hart.specs.History.{History}
-use Rattle.hart.specs.declared.operation.OpId.{OpId}
+use Rattle.trace_recorder.specs.History.{History}
+use Rattle.trace_recorder.specs.declared.operation.OpId.{OpId}
 use Rattle.memory_model.specs.declared.operation.Operation.{Operation}
 use Rattle.memory_model.specs.Legal.{is_atomic_at}
 use Rattle.memory_model.specs.Operations.{stores_to}

@@ -5,9 +5,9 @@ use Rattle.elf_loader.specs.Size.{base}
 use Rattle.hart.specs.declared.retired.Retired.{Retired}
 use Rattle.hart.specs.declared.status.Status.{Status}
 use Rattle.hart.specs.declared.status.Status.TheVariants.{Running}
-use Rattle.machine_types.specs.declared.line.LineSize.TheVariants.{Bytes16}
-use Rattle.hart.specs.History.{History}
-use Rattle.hart.specs.declared.operation.OpId.{OpId}
+use Rattle.tl_types.specs.declared.line.LineSize.TheVariants.{Bytes16}
+use Rattle.trace_recorder.specs.History.{History}
+use Rattle.trace_recorder.specs.declared.operation.OpId.{OpId}
 use Rattle.machine_types.specs.declared.model.MemoryModel.{MemoryModel}
 use Rattle.memory_model.specs.Traces.{are_runs, has_each_operation_once, judged_legal}
 use Rattle.memory_model.specs.Verdict.{fault_in}

@@ -1,6 +1,6 @@
 -- Litmus shapes: small runs, for each rule of preserved program order and each axiom some that it forbids in one order and allows in another.
 use Rattle.std.specs.Prelude.{[], ◌∷◌, true, false}
-use Rattle.hart.specs.History.{History}
+use Rattle.trace_recorder.specs.History.{History}
 use Rattle.memory_model.specs.Examples.{image_with, did, loaded, tried, trace}
 
 -- ---- rule 1

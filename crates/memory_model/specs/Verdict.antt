@@ -1,8 +1,8 @@
 -- What is wrong with an order that isn't legal: the least code, and the first pair that breaks its rule.
 use Rattle.std.specs.Prelude.{ℕ, Bool, ◌&&◌, not, ◌==◌, List, [], ◌∷◌, ◌++◌, Option, Some, None, find, map, Contains, IsTrue}
 use Rattle.std.specs.List.{flat_map, list_any}
-use Rattle.hart.specs.History.{History}
-use Rattle.hart.specs.declared.operation.OpId.{OpId}
+use Rattle.trace_recorder.specs.History.{History}
+use Rattle.trace_recorder.specs.declared.operation.OpId.{OpId}
 use Rattle.machine_types.specs.declared.model.MemoryModel.{MemoryModel}
 use Rattle.memory_model.specs.declared.operation.Operation.{Operation}
 use Rattle.memory_model.specs.Operations.{same}

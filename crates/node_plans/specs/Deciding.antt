@@ -1,7 +1,7 @@
 -- What stands in the way of a line's bytes.
 use Rattle.std.specs.Prelude.{Result, Ok, Err}
 use Rattle.machine_model.specs.declared.act.Plan.{Plan}
-use Rattle.machine_types.specs.declared.line.LineData.{LineData}
+use Rattle.tl_types.specs.declared.line.LineData.{LineData}
 
 -- what is done with the bytes, where there are any
 abbrev pub with_line : (LineData → Plan) → Result LineData Plan → Plan

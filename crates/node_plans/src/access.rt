@@ -11,12 +11,13 @@ ghost use Rattle.rv32_exec.specs.Width.{byte_count};
 use crate::miss::{reading, writing};
 use crate::node::Node;
 use crate::words::{marks_of, read_from, store_of, word_in, word_of};
+use amo_unit::combine;
 use hart::Retired;
 use machine_model::{Act, Deed, Plan};
 use machine_types::{Config, MemoryModel, Outcome};
 use memory_model::annotations;
 use rv32_decode::{AmoOp, Instr};
-use rv32_exec::{Call, Width, combine};
+use rv32_exec::{Call, Width};
 use store_buffer::StoreBuffer;
 
 /// An instruction that a hart is about to retire.

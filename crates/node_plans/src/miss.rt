@@ -4,11 +4,12 @@ ghost use Rattle.client_cache.specs.Cache.{copy_at, wanted};
 ghost use Rattle.machine_model.specs.declared.act.Plan.{Plan as AnyPlan};
 ghost use Rattle.machine_model.specs.Deciding.{plan_miss, reading, writing};
 ghost use Rattle.node_plans.specs.Deciding.{with_line};
-ghost use Rattle.machine_types.specs.declared.line.LineData.{LineData as AnyLine};
+ghost use Rattle.tl_types.specs.declared.line.LineData.{LineData as AnyLine};
 
 use client_cache::{ClientCache, Held, Want};
 use machine_model::{Act, Plan};
-use machine_types::{Grow, LineData, Outcome};
+use machine_types::Outcome;
+use tl_types::{Grow, LineData};
 
 /// A miss on a line, by the cache's rule.
 pub(crate) fn plan_miss(cache: &ClientCache, line: u32, grow: Grow) -> Plan

@@ -8,12 +8,13 @@ ghost use Rattle.machine_model.specs.Views.{opening_node};
 use client_cache::ClientCache;
 use elf_loader::Image;
 use hart::Hart;
-use machine_types::{Config, LineSize, Perm};
+use machine_types::Config;
 use reservations::Reservation;
 use std::alloc::{AllocError, Global};
 use std::marker::Model;
 use store_buffer::StoreBuffer;
 use tilelink_channels::Queues;
+use tl_types::{LineSize, Perm};
 
 /// A hart with the numbers that it put out, its reservation, store buffer and cache, and the messages
 /// between its cache and the manager.

@@ -7,9 +7,9 @@ ghost use Rattle.rv32_exec.specs.Width.{byte_count};
 ghost use Rattle.store_buffer.specs.ByteMask.{marks_of_access};
 
 use elf_loader::BASE;
-use machine_types::{LineData, LineSize};
 use rv32_exec::Width;
 use store_buffer::{ByteMask, Store};
+use tl_types::{LineData, LineSize};
 
 /// The address of the aligned word that an address lies in.
 pub fn word_of(address: u32) -> u32

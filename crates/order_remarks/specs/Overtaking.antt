@@ -8,7 +8,7 @@ use Rattle.memory_model.specs.declared.operation.Operation.{Operation}
 use Rattle.order_remarks.specs.declared.overtaking.Overtaking.{Overtaking}
 use Rattle.rv32_decode.specs.declared.instruction.Instr.{Instr}
 use Rattle.rv32_decode.specs.declared.instruction.Instr.TheVariants as instr
-use Rattle.hart.specs.History.{History}
+use Rattle.trace_recorder.specs.History.{History}
 
 -- b, which is performed before a, overtakes it: a precedes b, and they have no byte in common
 abbrev pub overtakes : Operation → Operation → Bool

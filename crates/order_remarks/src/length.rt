@@ -1,9 +1,9 @@
 //! How many operations a trace has, where they are too many.
 
 use crate::operations::operations_of;
-use hart::Trace;
 use std::fmt::{self, Display, Formatter};
 use trace_operations::MAX_OPERATIONS;
+use trace_recorder::Trace;
 
 /// How many memory operations a trace has that was refused as too long, and how many are judged.
 #[derive(Clone, Copy)]

@@ -1,8 +1,8 @@
 //! Where the P lines of a trace name no order of its operations.
 
 use crate::operations::has_operation;
-use hart::{OpId, Trace};
 use std::fmt::{self, Display, Formatter};
+use trace_recorder::{OpId, Trace};
 
 /// Which P line of a trace that was refused as no order is the first that names no memory operation, or one
 /// that an earlier line has named. The lines are counted from 1.

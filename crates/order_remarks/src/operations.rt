@@ -3,8 +3,9 @@
 ghost use Rattle.std.specs.Prelude.{◌≡◌};
 ghost use Rattle.memory_model.specs.Items as spec;
 
-use hart::{Retired, Trace};
+use hart::Retired;
 use rv32_decode::{Instr, decode};
+use trace_recorder::Trace;
 
 /// How many memory operations a trace has.
 pub(crate) fn operations_of(trace: &Trace) -> usize {

@@ -4,12 +4,12 @@ ghost use Rattle.std.specs.Prelude.{◌≡◌, ◌<◌, IfOk, None, Some, true};
 ghost use Rattle.memory_model.specs.Rules.{fences, is_in_set};
 ghost use Rattle.order_remarks.specs.Overtaking as spec;
 
-use hart::Trace;
 use memory_model::{Kind, Operation};
 use rv32_decode::{FenceSet, FenceSets, Instr};
 use std::alloc::{AllocError, Global};
 use trace_operations::Index;
 use trace_operations::accesses::{overlap, precedes};
+use trace_recorder::Trace;
 
 /// Two operations of a hart without a common byte, of which the second is performed before the first, which precedes it.
 #[derive(Clone, Copy, PartialEq, Eq)]

@@ -1,9 +1,10 @@
 //! Where a trace is no run.
 
 use elf_loader::Image;
-use hart::{Hart, Retired, Trace, can_fetch};
+use hart::{Hart, Retired, can_fetch};
 use rv32_decode::{Instr, decode};
 use std::fmt::{self, Display, Formatter};
+use trace_recorder::Trace;
 
 /// Which hart of a trace that was refused as no run is the first that does not run its image, at which of
 /// its R lines, counted from 0, and what is wrong there.

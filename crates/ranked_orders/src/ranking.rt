@@ -10,12 +10,12 @@ ghost use Rattle.memory_model.specs.Verdict as verdict;
 ghost use Rattle.ranked_orders.specs.Ranks.{AreDistinctOperations, GivesRanks, HasRank, rank_of, ranked};
 
 use crate::sourcing::sources_in;
-use hart::{OpId, Trace};
 use memory_model::Operation;
 use std::alloc::{AllocError, Global};
 use std::marker::Model;
 use trace_operations::accesses::{is_same, name_of, precedes, reads, stores_to};
 use trace_operations::{Places, places_in};
+use trace_recorder::{OpId, Trace};
 
 /// An order of a trace's operations, made for judging it.
 #[derive(Drop)]

@@ -1,8 +1,8 @@
 -- A hart's reservation (RISC-V Unprivileged ISA 20191213, section 8.2, "Load-Reserved/Store-Conditional Instructions").
 -- This machine's own choice within that section: the reserved set is one word, and is lost with its line.
 use Rattle.std.specs.Prelude.{ℕ, ◌+◌, Bool, false, ◌&&◌, ◌==◌, nat_le, nat_lt, Option, Some, None, if◌then◌else◌}
-use Rattle.machine_types.specs.declared.line.LineSize.{LineSize}
-use Rattle.machine_types.specs.Line.{length_of}
+use Rattle.tl_types.specs.declared.line.LineSize.{LineSize}
+use Rattle.tl_types.specs.Line.{length_of}
 
 -- the reserved word is this one
 abbrev pub is_valid : ℕ → Option ℕ → Bool

@@ -2,8 +2,8 @@
 ghost use Rattle.std.specs.Prelude.{◌≡◌, Some, None};
 ghost use Rattle.reservations.specs.Reservation.{is_valid, without_line};
 
-use machine_types::LineSize;
 use std::marker::Model;
+use tl_types::LineSize;
 
 /// At most one reserved word, named by its address, which is a multiple of 4.
 #[derive(Clone, Copy, Debug, PartialEq, Eq, Hash)]

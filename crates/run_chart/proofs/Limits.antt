@@ -18,9 +18,9 @@ use Rattle.run_chart.specs.Errors.{untold}
 use Rattle.run_chart.specs.Stories.{AreTooMany, IsOverfull, IsUntold, only_of}
 use Rattle.run_chart.specs.declared.errors.RowError.{RowError}
 use Rattle.run_chart.specs.declared.errors.RowError.TheVariants as row
-use Rattle.hart.specs.declared.logged.Logged.{Logged}
+use Rattle.trace_recorder.specs.declared.logged.Logged.{Logged}
 use Rattle.run_chart.proofs.Telling.{rest_is}
-use Rattle.machine_types.specs.declared.line.LineSize.{LineSize}
+use Rattle.tl_types.specs.declared.line.LineSize.{LineSize}
 
 pub line_behind_all : (line : ℕ) (xs ys : List Told) → line_behind line (xs ++ ys) ≡ line_behind (line_behind line xs) ys
 line_behind_all line [] ys = refl

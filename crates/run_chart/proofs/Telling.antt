@@ -17,7 +17,7 @@ use Rattle.run_chart.specs.declared.before.Before.{Before}
 use Rattle.run_chart.specs.declared.gathering.Gathered.{Gathered}
 use Rattle.run_chart.specs.Rows.{Told, before, is_shown, line_behind, report_since, row, row_between, rows_at, rows_by, rows_of, shown, told}
 use Rattle.run_chart.specs.Stories.{IsRowTold}
-use Rattle.machine_types.specs.declared.line.LineSize.{LineSize}
+use Rattle.tl_types.specs.declared.line.LineSize.{LineSize}
 
 stays : (v : Verdict) (w : LineSize) (only : Option ℕ) (columns : List ℕ) (line index : ℕ) (s new : State) (e : Event) (o : Outcome) → Answers v s (Ok o) new
     → ((p : Outcome) (moved : State) → v ≡ Moves p moved → moved.views.changes ≡ s.views.changes + 1) → new.views.changes ≡ s.views.changes

@@ -4,8 +4,8 @@ use Rattle.event_stream.specs.Closing.{next_address}
 use Rattle.machine_model.specs.Views.{State}
 use Rattle.machine_types.specs.declared.event.Event.{Event}
 use Rattle.machine_types.specs.declared.event.Event.TheVariants.{Step, Drain, Evict, Deliver, Local}
-use Rattle.machine_types.specs.Line.{line_of}
-use Rattle.machine_types.specs.declared.line.LineSize.{LineSize}
+use Rattle.tl_types.specs.Line.{line_of}
+use Rattle.tl_types.specs.declared.line.LineSize.{LineSize}
 
 -- the address that a hart's next instruction reads or writes, where there is such a hart
 abbrev pub accessed_at : State → ℕ → Option ℕ

@@ -7,7 +7,7 @@ use Rattle.client_cache.specs.Cache.{copy_at}
 use Rattle.client_cache.specs.declared.held.Held.{Held}
 use Rattle.client_cache.specs.declared.held.Held.TheVariants.{Branch, Trunk}
 use Rattle.machine_model.specs.Views.{State, node_at}
-use Rattle.hart.specs.declared.logged.Logged.{Logged}
+use Rattle.trace_recorder.specs.declared.logged.Logged.{Logged}
 
 abbrev pub hold_of : Option Held → Hold
 hold_of None = hold.Nothing

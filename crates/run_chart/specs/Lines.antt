@@ -3,7 +3,7 @@ use Rattle.std.specs.Prelude.{ℕ, ◌+◌, List, [], ◌∷◌, Option, max, if
 use Rattle.chart_rows.specs.declared.rows.Note.{Note}
 use Rattle.chart_rows.specs.declared.rows.Noted.{Noted}
 use Rattle.chart_rows.specs.declared.rows.Posted.{Posted}
-use Rattle.hart.specs.declared.logged.Logged.{Logged}
+use Rattle.trace_recorder.specs.declared.logged.Logged.{Logged}
 use Rattle.run_chart.specs.Copies.{is_about}
 
 -- each message that is asked for on a line of its own

@@ -19,8 +19,8 @@ use Rattle.run_chart.specs.Accesses.{address_at, lies_in}
 use Rattle.run_chart.specs.Copies.{copied, is_about}
 use Rattle.run_chart.specs.Lines.{end_of, noted, posted}
 use Rattle.run_chart.specs.Notes.{notes}
-use Rattle.machine_types.specs.declared.line.LineSize.{LineSize}
-use Rattle.hart.specs.declared.logged.Logged.{Logged}
+use Rattle.tl_types.specs.declared.line.LineSize.{LineSize}
+use Rattle.trace_recorder.specs.declared.logged.Logged.{Logged}
 
 -- a row of a chart, with its lists
 pub record Told : Type 0 where

@@ -4,7 +4,8 @@ ghost use Rattle.run_chart.specs.Accesses as accesses;
 
 use coherent_machine::Machine;
 use event_stream::next_address;
-use machine_types::{Event, LineSize};
+use machine_types::Event;
+use tl_types::LineSize;
 
 /// The address that a step of a hart reads or writes, where there is such a hart.
 fn accessed_at(machine: &Machine, hart: usize) -> Option<u32>

@@ -10,8 +10,8 @@ use chart_drawing::Hold;
 use chart_rows::Copied;
 use client_cache::{ClientCache, Held};
 use coherent_machine::Machine;
-use hart::Logged;
 use std::alloc::{AllocError, Global};
+use trace_recorder::Logged;
 
 fn hold_of(copy: Option<Held>) -> Hold
     ensures { result ≡ copies.hold_of copy }

@@ -15,8 +15,9 @@ use coherent_machine::{Machine, replay};
 use elf_loader::Image;
 use event_stream::Report;
 use machine_model::changes_are_counted;
-use machine_types::{Config, Event, LineSize};
+use machine_types::{Config, Event};
 use std::alloc::{AllocError, Global};
+use tl_types::LineSize;
 
 /// The rows so far, and the line of text on which the next one begins.
 #[derive(Drop)]

@@ -5,13 +5,14 @@ ghost use Rattle.std.specs.Option.{option_to_list};
 ghost use Rattle.chart_rows.specs.declared.rows.Note.TheVariants as note;
 ghost use Rattle.event_stream.specs.Telling.{report_of};
 ghost use Rattle.run_chart.specs.Notes as notes;
-ghost use Rattle.hart.specs.History.{entries_of};
+ghost use Rattle.trace_recorder.specs.History.{entries_of};
 
 use chart_rows::Note;
 use event_stream::Report;
-use hart::{OpId, Retired, Trace};
+use hart::Retired;
 use machine_types::Outcome;
 use std::alloc::{AllocError, Global};
+use trace_recorder::{OpId, Trace};
 
 /// One more note, if there is one.
 fn add(list: &mut Vec<Note>, note: Option<Note>) -> Result<(), AllocError>

@@ -7,8 +7,8 @@ use crate::copies::is_about;
 use crate::errors::RowError;
 use crate::row::MOST_LINES;
 use chart_rows::{Note, Noted, Posted};
-use hart::Logged;
 use std::alloc::{AllocError, Global};
+use trace_recorder::Logged;
 
 /// The line of text below another.
 fn below(line: u16) -> Result<u16, RowError>

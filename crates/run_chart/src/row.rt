@@ -15,9 +15,9 @@ use crate::posting::{end_of, noted, posts_of};
 use chart_rows::Row;
 use coherent_machine::Machine;
 use event_stream::{Report, hart_of};
-use hart::Logged;
-use machine_types::LineSize;
 use std::alloc::Global;
+use tl_types::LineSize;
+use trace_recorder::Logged;
 
 /// A picture has no more rows, and no more bars of a cache.
 pub const MOST_ROWS: usize = 400;

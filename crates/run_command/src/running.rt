@@ -18,7 +18,6 @@ use command_files::{
     script_of, unmade,
 };
 use command_settings::Run;
-use hart::Trace;
 use host_threads::{Gate, Report, RunError, run};
 use machine_traces::every_trace_has_a_text;
 use progress_line::{Progress, Stage};
@@ -27,6 +26,7 @@ use std::io::Write;
 use std::sync::Wait;
 use std::sync::atomic::{AtomicU64, Ordering};
 use std::thread::Threads;
+use trace_recorder::Trace;
 use trace_text::{Script, write_script, write_trace};
 
 /// How many turns a worker takes before it tells how far the run is.

@@ -14,7 +14,7 @@ use Rattle.machine_types.specs.declared.config.Config.{Config}
 use Rattle.machine_model.specs.Events.{after_events}
 use Rattle.machine_model.specs.LawfulLog.{IsLawfulLog}
 use Rattle.machine_model.specs.Views.{Node, State, opening}
-use Rattle.hart.specs.History.{History}
+use Rattle.trace_recorder.specs.History.{History}
 use Rattle.store_buffer.proofs.Layouts.{sum-cons}
 
 -- what a run says that was made in this configuration and to this limit

@@ -3,10 +3,10 @@
 ghost use Rattle.std.specs.Prelude.{◌≡◌};
 ghost use Rattle.run_reports.specs.Errors.{run_error_number};
 
-use hart::Trace;
 use machine_types::Event;
 use std::alloc::AllocError;
 use thiserror::Error;
+use trace_recorder::Trace;
 
 /// What a run leaves.
 #[derive(Drop)]

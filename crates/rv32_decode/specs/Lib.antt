@@ -1,4 +1,3 @@
-pub mod Amo
 pub mod Decoding
 pub mod Encoding
 pub mod Fence

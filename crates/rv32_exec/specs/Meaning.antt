@@ -2,7 +2,7 @@
 -- What calls mean, and the codes of stops, the manual leaves to the machine (chapter 2.8 and "Exceptions, Traps, and Interrupts", 1.6): those here are its own.
 use Rattle.std.specs.Prelude.{ℕ, ◌+◌, ◌-◌, ◌*◌, ◌%◌, ◌^◌, Bool, ◌||◌, ◌==◌, nat_lt, if◌then◌else◌, List, Option, Some, None, slice_index}
 use Rattle.machine_types.specs.declared.limits.TheConstants.{BASE}
-use Rattle.rv32_decode.specs.Amo.{combined}
+use Rattle.amo_unit.specs.Amo.{combined}
 use Rattle.rv32_decode.specs.Rows.{decoded}
 use Rattle.rv32_decode.specs.declared.instruction.AmoOp.{AmoOp}
 use Rattle.rv32_decode.specs.declared.instruction.Instr.{Instr}

@@ -1,11 +1,10 @@
 //! What an instruction does to a hart: first what it will do to memory, then its next pc and the register
-//! that it writes, and what an AMO writes to memory (RISC-V Unprivileged ISA 20191213, chapters 2, 7 and 8).
+//! that it writes (RISC-V Unprivileged ISA 20191213, chapters 2, 7 and 8).
 #![tactic(auto)]
 
 mod actions;
 mod arithmetic;
 mod call;
-mod combining;
 mod finishing;
 mod laws;
 mod planning;
@@ -15,7 +14,6 @@ mod uses;
 
 pub use actions::{Action, Width};
 pub use call::Call;
-pub use combining::combine;
 pub use finishing::finish;
 pub use laws::{reads_are_as_named, stops_are_decided_first, writes_are_as_named};
 pub use planning::plan;

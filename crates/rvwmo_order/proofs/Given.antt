@@ -18,8 +18,8 @@ use Rattle.elf_loader.specs.Image.{Initial}
 use Rattle.hart.specs.declared.retired.Retired.{Retired}
 use Rattle.hart.specs.declared.state.Hart.{Hart}
 use Rattle.hart.specs.Run.{after, at_reset}
-use Rattle.hart.specs.History.{History}
-use Rattle.hart.specs.declared.operation.OpId.{OpId}
+use Rattle.trace_recorder.specs.History.{History}
+use Rattle.trace_recorder.specs.declared.operation.OpId.{OpId}
 use Rattle.memory_model.specs.declared.operation.Operation.{Operation}
 use Rattle.memory_model.specs.Items.{Item, annotations_of, items_from, items_of_harts, operation_of_access, operation_of_entry, succeeded}
 use Rattle.memory_model.specs.Rules.{items_of}

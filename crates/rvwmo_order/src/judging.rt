@@ -17,7 +17,6 @@ use crate::rules::{are_paired, pair_place};
 use crate::searching::first_broken_by;
 use crate::verdict::{Code, RULES, Verdict};
 use elf_loader::Image;
-use hart::OpId;
 use machine_types::MemoryModel;
 use memory_model::Operation;
 use order_bounds::{Row, Rule, are_clear, ranked_rows};
@@ -25,6 +24,7 @@ use ranked_orders::{Ranking, byte_from};
 use std::alloc::{AllocError, Global};
 use trace_operations::Harts;
 use trace_operations::accesses::{end_of, is_same, is_sc, name_of, read_at, reads, stores_to};
+use trace_recorder::OpId;
 
 /// The verdict on an order of the operations of these lists, one a hart.
 pub(crate) fn judge(

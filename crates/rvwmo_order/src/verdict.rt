@@ -2,8 +2,8 @@
 ghost use Rattle.std.specs.Prelude.{◌≡◌};
 ghost use Rattle.rvwmo_order.specs.Codes.{code_number};
 
-use hart::OpId;
 use order_bounds::Rule;
+use trace_recorder::OpId;
 
 /// All rules, in the order of their numbers.
 pub(crate) const RULES: [Rule; 13] = [

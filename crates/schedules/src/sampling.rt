@@ -9,10 +9,11 @@ use crate::player::{MOST_HARTS, Player};
 use crate::schedule::Schedule;
 use coherent_machine::Views;
 use elf_loader::Image;
-use machine_types::{Channel, Config, Event, Outcome};
+use machine_types::{Config, Event, Outcome};
 use rand_core::{Rng, SeedableRng};
 use rand_xoshiro::SplitMix64;
 use std::alloc::{AllocError, Global};
+use tl_types::Channel;
 
 /// One pick in so many is an eviction, if a cache may hold a line.
 const PICKS_AN_EVICTION: u64 = 16;

@@ -6,8 +6,9 @@ ghost use Rattle.schedules.specs.Schedules.{start_of};
 use crate::errors::Fault;
 use crate::player::{MOST_HARTS, Player};
 use crate::spare::lowest_held;
-use machine_types::{Channel, Event};
+use machine_types::Event;
 use rv32_exec::Action;
+use tl_types::Channel;
 
 impl Player {
     fn deliver(&mut self, channel: Channel, hart: u8) -> Result<(), Fault>

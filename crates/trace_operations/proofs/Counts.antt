@@ -8,7 +8,7 @@ use Rattle.machine_types.specs.declared.limits.TheConstants.{MAX_ENTRIES}
 use Rattle.hart.specs.declared.retired.Retired.{Retired}
 use Rattle.memory_model.specs.Items.{has_operation}
 use Rattle.memory_model.specs.Traces.{names_from, names_of_harts}
-use Rattle.hart.specs.declared.operation.OpId.{OpId}
+use Rattle.trace_recorder.specs.declared.operation.OpId.{OpId}
 
 named_as_given : (id place : ℕ) (es : List Retired) → length (names_from id place es) ≡ length (filter has_operation es)
 named_as_given id place [] = refl

@@ -10,7 +10,7 @@ use Rattle.memory_model.specs.Operations.{precedes, same, stores_to}
 use Rattle.memory_model.specs.Order.{candidates, position_in, source}
 use Rattle.memory_model.specs.Verdict.{name_of}
 use Rattle.memory_model.proofs.Forms.{place_head, place_tail, same-swap}
-use Rattle.hart.specs.declared.operation.OpId.{OpId}
+use Rattle.trace_recorder.specs.declared.operation.OpId.{OpId}
 use Rattle.trace_operations.specs.Indexed.{is_seen, place_from, stored_from}
 use Rattle.trace_operations.specs.declared.stored.Stored.{Stored}
 

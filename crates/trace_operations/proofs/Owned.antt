@@ -6,7 +6,7 @@ use Rattle.elf_loader.specs.Image.{Initial}
 use Rattle.hart.specs.declared.retired.Retired.{Retired}
 use Rattle.hart.specs.declared.state.Hart.{Hart}
 use Rattle.hart.specs.Run.{at_reset}
-use Rattle.hart.specs.History.{History}
+use Rattle.trace_recorder.specs.History.{History}
 use Rattle.memory_model.specs.Items.{items_from, items_of_harts}
 use Rattle.memory_model.specs.Rules.{items_of}
 use Rattle.memory_model.specs.Traces.{instructions}

@@ -9,7 +9,7 @@ use Rattle.hart.specs.declared.status.Status.{Status}
 use Rattle.hart.specs.Run.{after, are_steps, is_step, reached, status_fits}
 use Rattle.memory_model.specs.Items.{Item, has_operation, item_of, items_from}
 use Rattle.memory_model.specs.Traces.{names_from, names_of_harts}
-use Rattle.hart.specs.declared.operation.OpId.{OpId}
+use Rattle.trace_recorder.specs.declared.operation.OpId.{OpId}
 
 -- what comes next goes behind what is there
 pushed_next : {B : Type 0} (front pushed all left own more : List B) → pushed ≡ front ++ own → left ≡ own ++ more → all ≡ front ++ left → all ≡ pushed ++ more

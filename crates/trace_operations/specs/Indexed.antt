@@ -3,8 +3,8 @@ use Rattle.std.specs.Prelude.{◌-◌, ℕ, ◌+◌, Bool, slice_get, slice_inde
 use Rattle.std.specs.Option.{option_map_or}
 use Rattle.memory_model.specs.declared.operation.Operation.{Operation}
 use Rattle.memory_model.specs.Operations.{same, stores_to}
-use Rattle.hart.specs.History.{History, entries_of}
-use Rattle.hart.specs.declared.operation.OpId.{OpId}
+use Rattle.trace_recorder.specs.History.{History, entries_of}
+use Rattle.trace_recorder.specs.declared.operation.OpId.{OpId}
 use Rattle.trace_operations.specs.declared.places.Numbers.{Numbers}
 use Rattle.trace_operations.specs.declared.places.Places.{Places}
 use Rattle.trace_operations.specs.declared.stored.Stored.{Stored}

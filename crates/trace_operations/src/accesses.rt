@@ -5,9 +5,9 @@ ghost use Rattle.memory_model.specs.Verdict as verdict;
 ghost use Rattle.elf_loader.specs.Image as images;
 
 use elf_loader::{BASE, Image};
-use hart::OpId;
 use machine_types::MemoryModel;
 use memory_model::{Kind, Operation};
+use trace_recorder::OpId;
 
 /// Whether an operation of this kind reads memory.
 pub fn reads(kind: Kind) -> bool

@@ -4,8 +4,8 @@ ghost use Rattle.memory_model.specs.Traces as spec;
 
 use crate::names::{has, names_of};
 use crate::orders::names_in;
-use hart::{OpId, Trace};
 use std::alloc::{AllocError, Global};
+use trace_recorder::{OpId, Trace};
 
 /// The performed operations as they stand, then each operation that isn't among them, by hart and then by
 /// place: stores that were still waiting.

@@ -17,13 +17,13 @@ use crate::items::Harts;
 use crate::orders::operations_at;
 use crate::places::{Places, places_in};
 use crate::stored::Stored;
-use hart::{OpId, Trace};
-use machine_types::Ticks;
 use memory_model::Operation;
 use std::alloc::{AllocError, Global};
 use std::collections::HashMap;
 use std::marker::Model;
 use std::sync::ledger::Ledger;
+use tl_types::Ticks;
+use trace_recorder::{OpId, Trace};
 
 /// An order of a trace's operations, made for finding the store that a byte comes from.
 #[derive(Drop)]

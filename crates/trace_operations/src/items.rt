@@ -14,13 +14,14 @@ ghost use Rattle.trace_operations.specs.Placed.{GivesOwn};
 
 use crate::listed::Items;
 use crate::runs::{is_step, retire};
+use amo_unit::combine;
 use elf_loader::Image;
-use hart::{Hart, Retired, Status, Trace};
+use hart::{Hart, Retired, Status};
 use memory_model::{Kind, Operation};
 use rv32_decode::{Annotations, Instr, LoadOp, Register, StoreOp, decode};
-use rv32_exec::combine;
 use std::alloc::{AllocError, Global};
 use std::marker::Model;
+use trace_recorder::Trace;
 
 // The instructions of a hart's list.
 fn items_of(alloc: Global, reset: &Hart, entries: &[Retired]) -> Result<Items, AllocError>

@@ -4,11 +4,11 @@ ghost use Rattle.std.specs.List.{list_all};
 ghost use Rattle.std.specs.Option.{IfSome};
 ghost use Rattle.memory_model.specs.Traces as spec;
 ghost use Rattle.trace_operations.specs.Indexed.{has_name, is_listed as is_listed_in};
-ghost use Rattle.hart.specs.declared.operation.OpId.{OpId as Name};
+ghost use Rattle.trace_recorder.specs.declared.operation.OpId.{OpId as Name};
 
 use crate::places::Places;
-use hart::{OpId, Trace};
 use std::alloc::{AllocError, Global};
+use trace_recorder::{OpId, Trace};
 
 // Whether the trace has an instruction at this place.
 fn is_listed(trace: &Trace, name: OpId) -> bool

@@ -4,13 +4,14 @@ ghost use Rattle.std.specs.List.{list_all};
 ghost use Rattle.std.specs.Option.{IfSome};
 ghost use Rattle.memory_model.specs.Items as items;
 ghost use Rattle.memory_model.specs.Traces as spec;
-ghost use Rattle.hart.specs.declared.operation.OpId.{OpId as Name};
+ghost use Rattle.trace_recorder.specs.declared.operation.OpId.{OpId as Name};
 
 use crate::items::{Harts, has_operation};
 use crate::names::{distinct_names, has_all};
-use hart::{OpId, Retired, Trace};
+use hart::Retired;
 use memory_model::Operation;
 use std::alloc::{AllocError, Global};
+use trace_recorder::{OpId, Trace};
 
 /// A trace with more memory operations isn't judged.
 pub const MAX_OPERATIONS: usize = 4096;

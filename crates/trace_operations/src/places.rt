@@ -6,13 +6,13 @@ ghost use Rattle.memory_model.specs.Order as orders;
 ghost use Rattle.memory_model.specs.Traces.{is_named};
 ghost use Rattle.memory_model.specs.Verdict as verdict;
 ghost use Rattle.memory_model.specs.declared.operation.Operation.{Operation as OperationValue};
-ghost use Rattle.hart.specs.declared.operation.OpId.{OpId as Name};
+ghost use Rattle.trace_recorder.specs.declared.operation.OpId.{OpId as Name};
 ghost use Rattle.trace_operations.specs.Indexed.{known, number_in, place_from};
 
 use crate::accesses::name_of;
-use hart::{OpId, Trace};
 use memory_model::Operation;
 use std::alloc::{AllocError, Global};
+use trace_recorder::{OpId, Trace};
 
 /// The numbers of names of one hart, by place; 0 where there is none.
 #[derive(Drop)]

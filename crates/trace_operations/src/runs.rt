@@ -7,8 +7,9 @@ ghost use Rattle.rv32_decode.specs.Rows.{decoded};
 ghost use Rattle.memory_model.specs.Traces.{are_runs as spec_are_runs};
 
 use elf_loader::Image;
-use hart::{Hart, Retired, Status, Trace, can_fetch};
+use hart::{Hart, Retired, Status, can_fetch};
 use rv32_decode::{Instr, decode};
+use trace_recorder::Trace;
 
 /// Whether each hart's list and status are those of a run.
 pub fn are_runs(trace: &Trace) -> bool

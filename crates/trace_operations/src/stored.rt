@@ -1,9 +1,9 @@
 //! A store of an order with its place there, which is read by one call that counts.
 ghost use Rattle.std.specs.Prelude.{◌≡◌, ◌+◌};
 
-use machine_types::Ticks;
 use memory_model::Operation;
 use std::sync::ledger::Ledger;
+use tl_types::Ticks;
 
 /// A store of an order and its place there, read by `look` alone.
 #[derive(Clone, Copy)]

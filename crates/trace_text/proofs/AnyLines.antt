@@ -10,8 +10,8 @@ use Rattle.hart.specs.declared.status.Status.{Status}
 use Rattle.text_fields.specs.Fields.{number, word}
 use Rattle.text_fields.specs.Reading.{after}
 use Rattle.text_fields.proofs.Laws.{Reads, pair_reads, ended_reads, guard_reads, number_reads, word_reads, after_takes, behind_takes, both_true}
-use Rattle.machine_types.specs.Line.{bytes_of, length_of}
-use Rattle.machine_types.specs.declared.line.LineData.{LineData}
+use Rattle.tl_types.specs.Line.{bytes_of, length_of}
+use Rattle.tl_types.specs.declared.line.LineData.{LineData}
 use Rattle.trace_text.specs.declared.head.TraceHead.{TraceHead}
 use Rattle.trace_text.specs.AnyLineReading.{left, numbers_at, image_fields_at, hart_at, retired_fields_at, status_fields_at, from_version, from_status, from_message, from_operation, from_retired, from_image, line_left}
 use Rattle.trace_text.specs.AnyLines.{IsVersion, IsNumbersLine, IsInMemory, IsImageLine, IsRetiredLine, IsOperationLine, IsLoggedLine, IsStatusLine, IsTraceLine}

@@ -5,8 +5,8 @@ use Rattle.std.proofs.lemmas.Bool.{le-leb}
 use Rattle.text_fields.specs.Fields.{number, word}
 use Rattle.text_fields.specs.Reading.{led_at, after}
 use Rattle.text_fields.proofs.Laws.{Reads, pair_reads, seen_reads, led_reads, ended_reads, guard_reads, word_reads, after_takes, behind_takes, both_true, refit}
-use Rattle.machine_types.specs.Line.{length_of}
-use Rattle.machine_types.specs.declared.line.LineSize.TheVariants.{Bytes16}
+use Rattle.tl_types.specs.Line.{length_of}
+use Rattle.tl_types.specs.declared.line.LineSize.TheVariants.{Bytes16}
 use Rattle.elf_loader.proofs.Sizes.{kib_passes}
 use Rattle.trace_text.specs.declared.head.TraceHead.{TraceHead}
 use Rattle.trace_text.specs.Scripts.{is_first_version}

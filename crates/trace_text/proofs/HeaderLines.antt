@@ -6,8 +6,8 @@ use Rattle.std.proofs.lemmas.List.Sums.{sum_by-append}
 use Rattle.text_fields.specs.Fields.{number, word}
 use Rattle.text_fields.specs.Reading.{after}
 use Rattle.text_fields.proofs.Laws.{after_again, some_is}
-use Rattle.machine_types.specs.Line.{length_of}
-use Rattle.hart.specs.History.{History}
+use Rattle.tl_types.specs.Line.{length_of}
+use Rattle.trace_recorder.specs.History.{History}
 use Rattle.trace_text.specs.declared.head.TraceHead.{TraceHead}
 use Rattle.trace_text.specs.Refusals.{line_feeds, has_line_feed}
 use Rattle.trace_text.specs.Scripts.{is_first_version}

@@ -8,8 +8,8 @@ use Rattle.text_fields.specs.Fields.{word, IsBytes}
 use Rattle.text_fields.specs.Reading.{◌>>=◌, after}
 use Rattle.text_fields.proofs.Laws.{bind_some, behind_takes, some_is}
 use Rattle.text_fields.proofs.Loops.{fronted, fronted_none}
-use Rattle.machine_types.specs.Line.{length_of}
-use Rattle.machine_types.specs.declared.line.LineSize.{LineSize}
+use Rattle.tl_types.specs.Line.{length_of}
+use Rattle.tl_types.specs.declared.line.LineSize.{LineSize}
 use Rattle.trace_text.specs.Traces.{any_set, image_line, image_lines}
 use Rattle.trace_text.specs.TraceLines.{image_lead, image_data_at, image_line_at}
 use Rattle.trace_text.specs.TraceRefusals.{AreLines}

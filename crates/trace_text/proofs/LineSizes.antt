@@ -5,9 +5,9 @@ use Rattle.std.proofs.lemmas.Option.{none-some, same_Some}
 use Rattle.text_fields.specs.Fields.{number}
 use Rattle.text_fields.specs.Reading.{◌>>=◌, number_at}
 use Rattle.text_fields.proofs.Laws.{Reads, bind_some, some_is, number_reads, chosen}
-use Rattle.machine_types.specs.Line.{length_of, size_of_bytes}
-use Rattle.machine_types.specs.declared.line.LineSize.{LineSize}
-use Rattle.machine_types.specs.declared.line.LineSize.TheVariants.{Bytes16, Bytes64}
+use Rattle.tl_types.specs.Line.{length_of, size_of_bytes}
+use Rattle.tl_types.specs.declared.line.LineSize.{LineSize}
+use Rattle.tl_types.specs.declared.line.LineSize.TheVariants.{Bytes16, Bytes64}
 use Rattle.trace_text.specs.Scripts.{is_first_version}
 use Rattle.trace_text.specs.ScriptReading.{most, size_at}
 

@@ -10,7 +10,7 @@ use Rattle.std.proofs.Math.Seq.{take-append_seam, drop-append_seam}
 use Rattle.machine_types.specs.declared.event.Event.{Event}
 use Rattle.machine_types.specs.declared.event.Event.TheVariants.{Step, Drain, Evict, Deliver, Local}
 use Rattle.text_fields.specs.Reading.{after}
-use Rattle.machine_types.specs.declared.message.Channel.TheVariants.{A}
+use Rattle.tl_types.specs.declared.message.Channel.TheVariants.{A}
 use Rattle.trace_text.specs.declared.fault.TextCode.{TextCode}
 use Rattle.trace_text.specs.declared.fault.Stop.{Stop}
 use Rattle.trace_text.specs.declared.fault.Stop.TheVariants.{Memory, Bytes}

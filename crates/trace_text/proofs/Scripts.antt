@@ -8,17 +8,17 @@ use Rattle.std.specs.Option.{option_or}
 use Rattle.text_fields.specs.Fields.{number, word}
 use Rattle.text_fields.specs.Reading.{◌>>=◌, pair_at, seen_at, led_at, number_at, table_at, guarded, all_at}
 use Rattle.text_fields.proofs.Laws.{Reads, bind_some, some_is, pair_reads, seen_takes, seen_again, led_reads, number_reads, word_reads, ended_reads, table_reads, both_true, either_takes, guarded_takes, all_takes, all_again}
-use Rattle.machine_types.specs.declared.message.Channel.{Channel}
-use Rattle.machine_types.specs.declared.message.Channel.TheVariants.{A, B, C, D, E}
+use Rattle.tl_types.specs.declared.message.Channel.{Channel}
+use Rattle.tl_types.specs.declared.message.Channel.TheVariants.{A, B, C, D, E}
 use Rattle.machine_types.specs.declared.event.Event.{Event}
 use Rattle.machine_types.specs.declared.event.Event.TheVariants.{Step, Drain, Evict, Deliver, Local}
 use Rattle.elf_loader.specs.Size.{is_memory_kib}
 use Rattle.elf_loader.proofs.Sizes.{memory_kib}
 use Rattle.machine_types.specs.Config.{is_within_limits}
 use Rattle.machine_types.proofs.Within.{limits_of}
-use Rattle.machine_types.specs.Line.{length_of}
-use Rattle.machine_types.specs.declared.line.LineSize.{LineSize}
-use Rattle.machine_types.specs.declared.line.LineSize.TheVariants.{Bytes16}
+use Rattle.tl_types.specs.Line.{length_of}
+use Rattle.tl_types.specs.declared.line.LineSize.{LineSize}
+use Rattle.tl_types.specs.declared.line.LineSize.TheVariants.{Bytes16}
 use Rattle.trace_text.proofs.LineSizes.{number_law, size_16, size_reads}
 use Rattle.trace_text.specs.declared.script.Head.{Head}
 use Rattle.trace_text.specs.Words.{channel}

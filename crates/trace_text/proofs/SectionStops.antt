@@ -11,8 +11,8 @@ use Rattle.hart.specs.declared.status.Status.TheVariants.{Running}
 use Rattle.text_fields.specs.Fields.{numbered}
 use Rattle.text_fields.specs.Reading.{after, section_at, numbered_at}
 use Rattle.text_fields.proofs.Laws.{bind_some, guarded_takes}
-use Rattle.hart.specs.declared.operation.OpId.{OpId}
-use Rattle.hart.specs.declared.logged.Logged.{Logged}
+use Rattle.trace_recorder.specs.declared.operation.OpId.{OpId}
+use Rattle.trace_recorder.specs.declared.logged.Logged.{Logged}
 use Rattle.trace_text.specs.declared.fault.Stop.{Stop}
 use Rattle.trace_text.specs.declared.fault.Stop.TheVariants as stops
 use Rattle.trace_text.specs.declared.head.TraceHead.{TraceHead}

@@ -10,29 +10,29 @@ use Rattle.text_fields.specs.Reading.{◌>>=◌, seen_at, led_at, table_at, afte
 use Rattle.text_fields.proofs.Laws.{Reads, bind_some, some_is, pair_reads, chain_reads, seen_reads, seen_takes, seen_again, led_reads, ended_reads, table_reads, number_reads, word_reads, hex_reads, after_takes, either_takes, text_takes, checked_reads, both_true}
 use Rattle.hart.specs.declared.status.Status.{Status}
 use Rattle.hart.specs.declared.status.Status.TheVariants.{Running, Stopped, Exited}
-use Rattle.machine_types.specs.Line.{bytes_of, length_of}
-use Rattle.machine_types.specs.Message.{channel_of}
-use Rattle.machine_types.specs.declared.message.Channel.{Channel}
-use Rattle.machine_types.specs.declared.message.Channel.TheVariants as channels
-use Rattle.machine_types.specs.declared.line.LineSize.{LineSize}
-use Rattle.machine_types.specs.declared.line.LineSize.TheVariants as sizes
-use Rattle.machine_types.specs.declared.line.LineData.{LineData}
-use Rattle.machine_types.specs.declared.line.LineData.TheVariants as lines
-use Rattle.machine_types.specs.declared.message.Body.{Body}
-use Rattle.machine_types.specs.declared.message.Body.TheVariants as bodies
-use Rattle.machine_types.specs.declared.message.Msg.{Msg}
-use Rattle.machine_types.specs.declared.permission.Cap.{Cap}
-use Rattle.machine_types.specs.declared.permission.Cap.TheVariants.{ToT, ToB, ToN}
-use Rattle.machine_types.specs.declared.permission.Change.{Change}
-use Rattle.machine_types.specs.declared.permission.Change.TheVariants.{TtoB, TtoN, BtoN, TtoT, BtoB, NtoN}
-use Rattle.machine_types.specs.declared.permission.Grow.{Grow}
-use Rattle.machine_types.specs.declared.permission.Grow.TheVariants.{NtoB, NtoT, BtoT}
-use Rattle.hart.specs.declared.operation.OpId.{OpId}
-use Rattle.hart.specs.declared.logged.Direction.{Direction}
-use Rattle.hart.specs.declared.logged.Direction.TheVariants.{Sent, Taken}
+use Rattle.tl_types.specs.Line.{bytes_of, length_of}
+use Rattle.tl_types.specs.Message.{channel_of}
+use Rattle.tl_types.specs.declared.message.Channel.{Channel}
+use Rattle.tl_types.specs.declared.message.Channel.TheVariants as channels
+use Rattle.tl_types.specs.declared.line.LineSize.{LineSize}
+use Rattle.tl_types.specs.declared.line.LineSize.TheVariants as sizes
+use Rattle.tl_types.specs.declared.line.LineData.{LineData}
+use Rattle.tl_types.specs.declared.line.LineData.TheVariants as lines
+use Rattle.tl_types.specs.declared.message.Body.{Body}
+use Rattle.tl_types.specs.declared.message.Body.TheVariants as bodies
+use Rattle.tl_types.specs.declared.message.Msg.{Msg}
+use Rattle.tl_types.specs.declared.permission.Cap.{Cap}
+use Rattle.tl_types.specs.declared.permission.Cap.TheVariants.{ToT, ToB, ToN}
+use Rattle.tl_types.specs.declared.permission.Change.{Change}
+use Rattle.tl_types.specs.declared.permission.Change.TheVariants.{TtoB, TtoN, BtoN, TtoT, BtoB, NtoN}
+use Rattle.tl_types.specs.declared.permission.Grow.{Grow}
+use Rattle.tl_types.specs.declared.permission.Grow.TheVariants.{NtoB, NtoT, BtoT}
+use Rattle.trace_recorder.specs.declared.operation.OpId.{OpId}
+use Rattle.trace_recorder.specs.declared.logged.Direction.{Direction}
+use Rattle.trace_recorder.specs.declared.logged.Direction.TheVariants.{Sent, Taken}
 use Rattle.trace_text.specs.declared.message_reading.Name.{Name}
 use Rattle.trace_text.specs.declared.message_reading.Name.TheVariants as names
-use Rattle.hart.specs.declared.logged.Logged.{Logged}
+use Rattle.trace_recorder.specs.declared.logged.Logged.{Logged}
 use Rattle.trace_text.specs.declared.head.TraceHead.{TraceHead}
 use Rattle.trace_text.specs.Traces.{retired_text, status_word}
 use Rattle.trace_text.specs.TraceLimits.{IsLoaded, IsRetired, IsOperation, IsData, IsBody, IsLogged, IsStatus}

@@ -9,8 +9,8 @@ use Rattle.hart.specs.declared.retired.Retired.{Retired}
 use Rattle.text_fields.specs.Fields.{number}
 use Rattle.text_fields.specs.Reading.{◌>>=◌, after, guarded, section_at}
 use Rattle.text_fields.proofs.Loops.{Sections, fronted, section_starts, section_more, section_fails, section_ends}
-use Rattle.hart.specs.declared.operation.OpId.{OpId}
-use Rattle.hart.specs.declared.logged.Logged.{Logged}
+use Rattle.trace_recorder.specs.declared.operation.OpId.{OpId}
+use Rattle.trace_recorder.specs.declared.logged.Logged.{Logged}
 use Rattle.trace_text.specs.declared.head.TraceHead.{TraceHead}
 use Rattle.trace_text.specs.declared.fault.Stop.{Stop}
 use Rattle.trace_text.specs.declared.fault.Stop.TheVariants as stops
@@ -19,7 +19,7 @@ use Rattle.trace_text.specs.TraceHeads.{IsTraceHead}
 use Rattle.trace_text.specs.Traces.{retired_lead, retired_text}
 use Rattle.trace_text.specs.TraceLines.{retired_at, operation_at, logged_at}
 use Rattle.trace_text.specs.TraceSections.{entries_at, performed_at, log_at}
-use Rattle.machine_types.specs.Message.{channel_of}
+use Rattle.tl_types.specs.Message.{channel_of}
 use Rattle.trace_text.specs.Words as words
 use Rattle.trace_text.proofs.TraceLaws.{op, operation_reads, retired_reads, logged_fields, logged_reads}
 

@@ -9,10 +9,10 @@ use Rattle.hart.specs.declared.status.Status.TheVariants.{Running}
 use Rattle.elf_loader.specs.Size.{base}
 use Rattle.text_fields.specs.Fields.{numbered, IsBytes}
 use Rattle.text_fields.specs.Reading.{◌>>=◌, numbered_at}
-use Rattle.machine_types.specs.Line.{length_of}
-use Rattle.hart.specs.declared.operation.OpId.{OpId}
-use Rattle.hart.specs.declared.logged.Logged.{Logged}
-use Rattle.hart.specs.History.{History}
+use Rattle.tl_types.specs.Line.{length_of}
+use Rattle.trace_recorder.specs.declared.operation.OpId.{OpId}
+use Rattle.trace_recorder.specs.declared.logged.Logged.{Logged}
+use Rattle.trace_recorder.specs.History.{History}
 use Rattle.trace_text.specs.declared.fault.Stop.{Stop}
 use Rattle.trace_text.specs.declared.fault.Stop.TheVariants as stops
 use Rattle.trace_text.specs.declared.head.TraceHead.{TraceHead}

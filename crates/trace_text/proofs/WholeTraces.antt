@@ -11,17 +11,17 @@ use Rattle.machine_types.specs.declared.limits.TheConstants.{MAX_ENTRIES, MAX_HA
 use Rattle.elf_loader.specs.Size.{base}
 use Rattle.hart.specs.declared.retired.Retired.{Retired}
 use Rattle.hart.specs.declared.status.Status.{Status}
-use Rattle.machine_types.specs.Line.{length_of}
-use Rattle.machine_types.specs.declared.line.LineSize.{LineSize}
-use Rattle.machine_types.specs.declared.line.LineSize.TheVariants.{Bytes16, Bytes64}
+use Rattle.tl_types.specs.Line.{length_of}
+use Rattle.tl_types.specs.declared.line.LineSize.{LineSize}
+use Rattle.tl_types.specs.declared.line.LineSize.TheVariants.{Bytes16, Bytes64}
 use Rattle.text_fields.specs.Fields.{number, numbered, IsBytes}
 use Rattle.text_fields.specs.Reading.{◌>>=◌, led_at, after, number_at, guarded, section_at, numbered_at}
 use Rattle.text_fields.proofs.Laws.{Reads, bind_some, some_is, led_reads, number_reads, after_not, guarded_takes, section_takes, section_again, leads_apart, starts, starts_section}
 use Rattle.text_fields.proofs.Numbered.{numbered_takes, numbered_again}
-use Rattle.hart.specs.declared.operation.OpId.{OpId}
-use Rattle.hart.specs.declared.logged.Logged.{Logged}
-use Rattle.hart.specs.History.{History, Recorded}
-use Rattle.hart.specs.Limits.{AreWithinLimits}
+use Rattle.trace_recorder.specs.declared.operation.OpId.{OpId}
+use Rattle.trace_recorder.specs.declared.logged.Logged.{Logged}
+use Rattle.trace_recorder.specs.History.{History, Recorded}
+use Rattle.trace_recorder.specs.Limits.{AreWithinLimits}
 use Rattle.trace_text.specs.Reading.{IsReadOrRefused, IsNoMemory}
 use Rattle.trace_text.specs.declared.fault.TextError.{TextError}
 use Rattle.trace_text.specs.declared.head.TraceHead.{TraceHead}

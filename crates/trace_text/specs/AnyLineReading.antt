@@ -4,8 +4,8 @@ use Rattle.std.specs.Option.{option_map}
 use Rattle.text_fields.specs.Reading.{◌>>=◌, pair_at, ended_at, after, number_at, behind, guarded}
 use Rattle.hart.specs.declared.retired.Retired.{Retired}
 use Rattle.hart.specs.declared.status.Status.{Status}
-use Rattle.machine_types.specs.Line.{bytes_of, length_of}
-use Rattle.machine_types.specs.declared.line.LineData.{LineData}
+use Rattle.tl_types.specs.Line.{bytes_of, length_of}
+use Rattle.tl_types.specs.declared.line.LineData.{LineData}
 use Rattle.trace_text.specs.declared.head.TraceHead.{TraceHead}
 use Rattle.trace_text.specs.Scripts.{is_first_version}
 use Rattle.trace_text.specs.TraceLines.{first_numbers_at, second_numbers_at, word_field_at, retired_at, operation_at, is_line, logged_at, status_at}

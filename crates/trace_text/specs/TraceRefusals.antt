@@ -1,6 +1,6 @@
 -- Where a trace is refused, and why.
 use Rattle.std.specs.Prelude.{◌≡◌, ℕ, suc, ◌≤◌, ◌<◌, true, false, ◌==◌, if◌then◌else◌, List, [], ◌∷◌, ◌++◌, ◌⊎◌, Contains, codes}
-use Rattle.hart.specs.History.{History}
+use Rattle.trace_recorder.specs.History.{History}
 use Rattle.trace_text.specs.declared.fault.TextCode.{TextCode}
 use Rattle.trace_text.specs.declared.fault.TextCode.TheVariants.{Header, Word, Fields, Order, End, NoMemory}
 use Rattle.trace_text.specs.declared.fault.TextError.{TextError}

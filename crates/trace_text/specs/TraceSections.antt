@@ -6,10 +6,10 @@ use Rattle.text_fields.specs.Reading.{◌>>=◌, led_at, guarded, section_at, nu
 use Rattle.elf_loader.specs.Size.{base}
 use Rattle.hart.specs.declared.retired.Retired.{Retired}
 use Rattle.hart.specs.declared.status.Status.{Status}
-use Rattle.machine_types.specs.Line.{length_of}
-use Rattle.hart.specs.declared.operation.OpId.{OpId}
-use Rattle.hart.specs.declared.logged.Logged.{Logged}
-use Rattle.hart.specs.History.{History}
+use Rattle.tl_types.specs.Line.{length_of}
+use Rattle.trace_recorder.specs.declared.operation.OpId.{OpId}
+use Rattle.trace_recorder.specs.declared.logged.Logged.{Logged}
+use Rattle.trace_recorder.specs.History.{History}
 use Rattle.trace_text.specs.declared.head.TraceHead.{TraceHead}
 use Rattle.trace_text.specs.Traces.{retired_lead}
 use Rattle.trace_text.specs.TraceLines.{head_at, image_line_at, retired_at, operation_at, logged_at, status_at}

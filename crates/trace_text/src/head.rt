@@ -2,8 +2,8 @@
 ghost use Rattle.std.specs.Prelude.{◌≡◌};
 ghost use Rattle.trace_text.specs.Traces.{head_of};
 
-use hart::Trace;
-use machine_types::LineSize;
+use tl_types::LineSize;
+use trace_recorder::Trace;
 
 /// What the first two lines of a trace say.
 #[derive(Clone, Copy)]

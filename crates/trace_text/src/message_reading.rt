@@ -5,9 +5,9 @@ ghost use Rattle.text_fields.specs.Reading.{table_at};
 ghost use Rattle.trace_text.specs.TraceReading as reads;
 
 use crate::reading::{ended, word_of};
-use hart::Direction;
-use machine_types::{Body, Cap, Change, Grow, LineData, LineSize, Msg};
 use text_fields::{after, hex_into, word_at};
+use tl_types::{Body, Cap, Change, Grow, LineData, LineSize, Msg};
+use trace_recorder::Direction;
 
 /// The name of a message.
 #[derive(Clone, Copy)]

@@ -2,8 +2,9 @@
 ghost use Rattle.std.specs.Prelude.{◌≡◌, IsTrue};
 ghost use Rattle.machine_types.specs.Config.{is_within_limits};
 
-use machine_types::{Event, LineSize};
+use machine_types::Event;
 use std::marker::Model;
+use tl_types::LineSize;
 
 /// Events in the order in which they happen.
 #[derive(Drop)]

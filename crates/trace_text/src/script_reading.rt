@@ -15,9 +15,10 @@ use crate::script::{Events, Head, Script};
 use crate::script_faults::script_fault;
 use crate::version::is_first_version;
 use elf_loader::is_memory_kib;
-use machine_types::{Channel, Event, LineSize, MAX_KIB, is_within_limits};
+use machine_types::{Event, MAX_KIB, is_within_limits};
 use std::alloc::Global;
 use text_fields::{after, number_at, word_at};
+use tl_types::{Channel, LineSize};
 
 /// No number of a header is more.
 pub(crate) const MOST: u32 = MAX_KIB;

@@ -5,9 +5,9 @@ ghost use Rattle.text_fields.specs.Pages.{size};
 ghost use Rattle.trace_text.specs.Words as words;
 ghost use Rattle.trace_text.specs.MessageParts as parts;
 
-use hart::Direction;
-use machine_types::{Body, Cap, Change, Channel, Grow, LineData, Msg};
 use text_fields::Page;
+use tl_types::{Body, Cap, Change, Channel, Grow, LineData, Msg};
+use trace_recorder::Direction;
 
 /// The channel's letter, with a space behind it.
 pub(crate) fn spell_channel(page: &mut Page, channel: Channel)

@@ -1,7 +1,7 @@
 //! Reading the lines of a trace.
 ghost use Rattle.std.specs.Prelude.{◌≡◌, ◌<◌, length, IfSome};
 ghost use Rattle.std.specs.Option.{option_map};
-ghost use Rattle.machine_types.specs.Line.{length_of};
+ghost use Rattle.tl_types.specs.Line.{length_of};
 ghost use Rattle.trace_text.specs.TraceHeads.{IsTraceHead};
 ghost use Rattle.trace_text.specs.TraceLines as reads;
 ghost use Rattle.trace_text.specs.TraceReading as words_at;
@@ -13,9 +13,11 @@ use crate::script_reading::{MOST, size_at, word_line_at};
 use crate::trace_writing::any_set;
 use crate::version::is_first_version;
 use elf_loader::{BASE, is_memory_kib};
-use hart::{Logged, OpId, Retired, Status};
-use machine_types::{Channel, LineSize, MAX_ENTRIES, MAX_HARTS};
+use hart::{Retired, Status};
+use machine_types::{MAX_ENTRIES, MAX_HARTS};
 use text_fields::{after, hex_into, number_at, word_at, word_text};
+use tl_types::{Channel, LineSize};
+use trace_recorder::{Logged, OpId};
 
 /// Whether a machine can have such a header.
 fn is_trace_head(head: &TraceHead) -> bool

@@ -4,7 +4,7 @@ ghost use Rattle.std.specs.Option.{option_map};
 ghost use Rattle.text_fields.specs.Fields.{number};
 ghost use Rattle.text_fields.specs.Reading.{numbered_at};
 ghost use Rattle.elf_loader.specs.Size.{base, IsMemorySize};
-ghost use Rattle.hart.specs.History.{History};
+ghost use Rattle.trace_recorder.specs.History.{History};
 ghost use Rattle.trace_text.specs.Reading.{Gives, IsReadOrRefused, IsNoMemory};
 ghost use Rattle.trace_text.specs.TraceLimits.{IsTrace, IsReadAs, NoTextBeginsAnother};
 ghost use Rattle.trace_text.specs.TraceHeads.{IsTraceHead};
@@ -21,10 +21,11 @@ use crate::trace_lines::{
     head_at, image_line_into, logged_at, operation_at, retired_at, status_at,
 };
 use elf_loader::{BASE, Image};
-use hart::{Logged, OpId, Retired, Status, Trace};
+use hart::{Retired, Status};
 use machine_types::{MAX_ENTRIES, MAX_HARTS};
 use std::alloc::Global;
 use text_fields::after;
+use trace_recorder::{Logged, OpId, Trace};
 
 /// Memory at reset, line by line.
 #[tactic(auto, using(crate::proofs::TraceHeads::first_line, crate::proofs::TraceHeads::line_inside, crate::proofs::TraceHeads::line_fits, crate::proofs::TraceHeads::line_small, crate::proofs::TraceHeads::address_small, crate::proofs::TraceHeads::line_nearer, crate::proofs::TraceHeads::next_line))]

@@ -13,9 +13,10 @@ use crate::head::TraceHead;
 use crate::spellings::{spell_channel, spell_data, spell_direction, spell_name, spell_permissions};
 use crate::version::is_first_version;
 use elf_loader::BASE;
-use hart::{Logged, OpId, Retired, Status, Trace};
+use hart::{Retired, Status};
 use std::io::{Result, Write};
 use text_fields::Page;
+use trace_recorder::{Logged, OpId, Trace};
 
 fn spell_head(page: &mut Page, head: TraceHead)
     requires { HasLineRoom page.old }

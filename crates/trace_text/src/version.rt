@@ -2,7 +2,7 @@
 ghost use Rattle.std.specs.Prelude.{◌≡◌};
 ghost use Rattle.trace_text.specs.Scripts.{is_first_version};
 
-use machine_types::LineSize;
+use tl_types::LineSize;
 
 /// Whether a text of so many harts and such lines is of version 1, which has lines of 16 bytes and at most
 /// 4 harts. Whatever is spelt there isn't in version 2.

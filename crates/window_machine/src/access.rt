@@ -9,12 +9,13 @@ ghost use Rattle.rv32_exec.specs.Meaning as spec;
 ghost use Rattle.rv32_exec.specs.Meaning.{access_of};
 ghost use Rattle.window_machine.specs.Circles.{is_of_memory};
 
+use amo_unit::combine;
 use elf_loader::Image;
 use hart::{Hart, Retired, can_fetch};
 use machine_types::MemoryModel;
 use memory_model::{Kind, annotations};
 use rv32_decode::{AmoOp, Annotations, Instr, decode};
-use rv32_exec::{Action, Width, combine, plan, stop};
+use rv32_exec::{Action, Width, plan, stop};
 use trace_operations::accesses::{reads, writes};
 
 /// An access that a hart stands before: its bytes as lanes of the aligned word that they lie in.

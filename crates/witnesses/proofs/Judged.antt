@@ -8,8 +8,8 @@ use Rattle.hart.specs.declared.retired.Retired.{Retired}
 use Rattle.machine_types.specs.declared.config.Config.{Config}
 use Rattle.memory_model.specs.Traces.{names_in}
 use Rattle.std.specs.Global.{Vec}
-use Rattle.hart.proofs.Lists.{history_within}
-use Rattle.hart.specs.History.{History}
+use Rattle.trace_recorder.proofs.Lists.{history_within}
+use Rattle.trace_recorder.specs.History.{History}
 use Rattle.witnesses.specs.Outcomes.{results_of, results_from}
 use Rattle.witnesses.specs.Witnesses.{IsAllowed, IsWholeRun, IsWitness, has_ended, history_of}
 use Rattle.witnesses.specs.declared.witness.Run.{Run}

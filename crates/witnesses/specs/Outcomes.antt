@@ -9,7 +9,7 @@ use Rattle.hart.specs.declared.status.Status.{Status}
 use Rattle.hart.specs.Ends.{access_at}
 use Rattle.hart.specs.Run.{after, at_reset}
 use Rattle.flat_model.specs.Shown.{HartEnd}
-use Rattle.hart.specs.History.{History}
+use Rattle.trace_recorder.specs.History.{History}
 
 -- what an access puts out: the argument of an environment call of number 1
 abbrev pub number_out : Access → List ℕ

@@ -7,10 +7,11 @@ ghost use Rattle.witnesses.specs.Witnesses.{CanBeJudged, IsAllowed, IsWholeRun, 
 use crate::results::results_of;
 use crate::witness::{Run, Witness};
 use elf_loader::Image;
-use hart::{Status, Trace, are_within_limits};
+use hart::Status;
 use machine_types::{Config, MemoryModel};
 use rvwmo_order::{CheckError, Verdict, check_model};
 use std::alloc::{AllocError, Global};
+use trace_recorder::{Trace, are_within_limits};
 
 /// A witness of what this run comes to, where its lists are those of the program's harts from reset to their ends,
 /// and its order is one of their operations that the model of the machine allows. Lists that are longer than a

@@ -1,7 +1,8 @@
 //! A run, and what it is a witness of.
 
 use flat_model::HartResult;
-use hart::{OpId, Retired, Status, Trace};
+use hart::{Retired, Status};
+use trace_recorder::{OpId, Trace};
 
 /// Lists that may be a run of a program, with an order of its memory operations. Any may stand here.
 #[derive(Drop)]

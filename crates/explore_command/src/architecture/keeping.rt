@@ -13,8 +13,8 @@ use crate::keeping::{Destination, Folder};
 use architecture_outcomes::{Outcome, Way};
 use command_files::{Fault, Files};
 use explorer::Realisation;
-use hart::Trace;
 use std::alloc::AllocError;
+use trace_recorder::Trace;
 use trace_text::write_trace;
 
 /// Writes a file for each outcome, the last one first. An outcome of the machine without a script can't be written.

@@ -5,9 +5,9 @@ ghost use Rattle.explore_command.specs.Telling.{AreRemarks, GrowsBy, IsRemark, T
 ghost use Rattle.order_remarks.specs.Overtaking.{overtakings};
 
 use architecture_outcomes::{Outcome, Way};
-use hart::Trace;
 use order_remarks::{OvertakingRemark, overtakings};
 use std::alloc::{AllocError, Global};
+use trace_recorder::Trace;
 
 /// Of each outcome of the memory model alone which operations of its trace overtake others, and what would forbid it, a
 /// line each.

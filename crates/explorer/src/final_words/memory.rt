@@ -11,11 +11,11 @@ ghost use Rattle.memory_model.specs.Order.{last_write};
 use crate::final_words::reading::byte_of;
 use elf_loader::{BASE, Image};
 use flat_machine::Patch;
-use hart::Trace;
 use memory_model::Operation;
 use std::alloc::{AllocError, Global};
 use trace_operations::Index;
 use trace_operations::accesses::writes;
+use trace_recorder::Trace;
 
 /// A byte of memory is written, if there is one at this address.
 fn write_byte(memory: &mut Vec<u8>, x: u64, byte: u8)

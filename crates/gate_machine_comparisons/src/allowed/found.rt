@@ -4,9 +4,10 @@ use anyhow::{Context, Result, ensure};
 use elf_loader::Image;
 use explorer::{Exploring, Found, compare, explore};
 use flat_model::HartResult;
-use machine_types::{Config, LineSize, MemoryModel};
+use machine_types::{Config, MemoryModel};
 use state_search::Unwatched;
 use std::alloc::Global;
+use tl_types::LineSize;
 use window_search::{Reach, search};
 use witnesses::Witness;
 

@@ -1,7 +1,7 @@
 //! Other messages in the place of one.
 
-use hart::Logged;
-use machine_types::{Body, Cap, Change, Grow};
+use tl_types::{Body, Cap, Change, Grow};
+use trace_recorder::Logged;
 
 /// The entry with a message of another kind.
 pub fn of_other_kind(entry: Logged) -> Logged {

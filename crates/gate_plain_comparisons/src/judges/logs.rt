@@ -5,12 +5,12 @@
 use super::traces::Traces;
 use super::{are_alike, changes, plain};
 use anyhow::{Result, bail, ensure};
-use hart::Logged;
 use lawful_log::{LogRule, LogVerdict, check_log};
 use std::alloc::Global;
 use std::fs;
 use std::io::Write;
 use std::rt::Files;
+use trace_recorder::Logged;
 
 /// The file has this many traces, one behind another, each of its T line and its log.
 const TRACES: usize = 24;

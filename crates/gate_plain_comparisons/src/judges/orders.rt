@@ -5,12 +5,12 @@
 use super::are_alike;
 use super::traces::Traces;
 use anyhow::{Result, bail, ensure};
-use hart::{OpId, Trace};
 use machine_types::MemoryModel;
 use std::alloc::Global;
 use std::fs;
 use std::io::Write;
 use std::rt::Files;
+use trace_recorder::{OpId, Trace};
 
 /// The files, each with how many traces it has.
 static FILES: [(&str, usize); 3] = [("rows", 74), ("programs", 200), ("shapes", 137)];

@@ -1,8 +1,8 @@
 //! The rules of the lawful log read off the whole log before each entry, by counting in it anew.
 
-use hart::{Direction, Logged};
 use lawful_log::{LogRule, LogVerdict};
-use machine_types::{Body, Cap, Change, Grow};
+use tl_types::{Body, Cap, Change, Grow};
+use trace_recorder::{Direction, Logged};
 
 /// A kind of message; one with data is of the same kind as one without.
 #[derive(Clone, Copy, PartialEq, Eq)]

@@ -1,8 +1,8 @@
 //! Kept traces that stand in a file one behind another.
 
 use anyhow::{Result, bail};
-use hart::Trace;
 use std::alloc::Global;
+use trace_recorder::Trace;
 use trace_text::read_trace;
 
 /// What of a file isn't read yet.

@@ -2,8 +2,8 @@
 
 use coherent_machine::Views;
 use gate_plain_machine::FlatView;
-use hart::Trace;
 use store_buffer::StoreBuffer;
+use trace_recorder::Trace;
 
 fn is_same_entry(flat: &gate_plain_machine::Entry, entry: &store_buffer::Entry) -> bool {
     entry.word == flat.word

@@ -1,9 +1,11 @@
 //! Memory as the image with what was performed, worked out from a machine's lists and performed order alone.
 
+use amo_unit::combine;
 use elf_loader::{BASE, Image};
-use hart::{OpId, Retired};
-use rv32_exec::{Action, combine};
+use hart::Retired;
+use rv32_exec::Action;
 use std::alloc::{AllocError, Global};
+use trace_recorder::OpId;
 
 /// What an instruction writes once it is performed: so many bytes of a number.
 #[derive(Clone, Copy)]

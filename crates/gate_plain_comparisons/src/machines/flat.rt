@@ -6,8 +6,9 @@ use crate::lockstep::{Counts, Failures, Lockstep};
 use crate::numbers::Numbers;
 use anyhow::{Context, Result, bail, ensure};
 use gate_plain_machine::Variant;
-use machine_types::{Channel, Config, Event, LineSize, MemoryModel};
+use machine_types::{Config, Event, MemoryModel};
 use std::alloc::Global;
+use tl_types::{Channel, LineSize};
 
 /// A word of the next line.
 const RIVAL: u32 = 0x8000_0110;

@@ -7,9 +7,10 @@ use anyhow::{Context, Result, ensure};
 use coherent_machine::Machine;
 use elf_loader::Image;
 use gate_plain_machine::PlainMachine;
-use hart::Trace;
-use machine_types::{Config, Event, LineSize, MemoryModel, Outcome};
+use machine_types::{Config, Event, MemoryModel, Outcome};
 use std::alloc::Global;
+use tl_types::LineSize;
+use trace_recorder::Trace;
 use trace_text::write_trace;
 
 /// Loads the word at 0x80000100 and stores 1 to it, for ever.

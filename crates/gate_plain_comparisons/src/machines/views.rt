@@ -7,9 +7,9 @@ use client_cache::{ClientCache, Held};
 use coherent_machine::Views;
 use elf_loader::BASE;
 use gate_plain_machine::{NodeView, PlainMachine, Transaction};
-use machine_types::{Channel, Perm};
 use store_buffer::StoreBuffer;
 use tilelink_channels::Queues;
+use tl_types::{Channel, Perm};
 
 static CHANNELS: [Channel; 5] = [Channel::A, Channel::B, Channel::C, Channel::D, Channel::E];
 

@@ -4,9 +4,9 @@ use anyhow::{Context, Result, bail};
 use coherent_machine::Machine;
 use elf_loader::Image;
 use gate_plain_machine::PlainMachine;
-use hart::Trace;
 use machine_types::{Config, Event, Outcome};
 use std::alloc::Global;
+use trace_recorder::Trace;
 
 /// What a play asks of a machine.
 pub trait Playable: Sized {

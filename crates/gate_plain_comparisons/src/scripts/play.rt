@@ -6,11 +6,11 @@ use crate::images::ImageKind;
 use anyhow::Result;
 use coherent_machine::Machine;
 use gate_plain_machine::PlainMachine;
-use hart::Trace;
 use hart_ends::put_end;
 use machine_types::{Event, Outcome};
 use std::alloc::Global;
 use std::io::{self, Write};
+use trace_recorder::Trace;
 use trace_text::{Script, write_trace};
 
 /// What a play gave, as text.

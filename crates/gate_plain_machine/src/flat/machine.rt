@@ -8,11 +8,12 @@ use crate::steps::{fetch, retires, retires_as, stall_of, write_waits};
 use crate::words::{bytes_at, word_of, write_word};
 use elf_loader::{BASE, Image};
 use flat_model::FlatEvent;
-use hart::{OpId, Retired, Status};
+use hart::{Retired, Status};
 use machine_types::{Config, Outcome};
 use rv32_decode::Instr;
 use rv32_exec::Action;
 use std::alloc::{AllocError, Global};
+use trace_recorder::OpId;
 
 /// A flat machine that does what the flat meaning says, or a wrong variant of it, in lists. Where memory is
 /// refused amid an event it is left as it then stands.

@@ -3,7 +3,8 @@
 use crate::buffer::Entry;
 use crate::flat::machine::FlatMachine;
 use crate::hart_state::HartState;
-use hart::{Hart, OpId, Retired};
+use hart::{Hart, Retired};
+use trace_recorder::OpId;
 
 /// What belongs to one hart of a flat machine.
 #[derive(Clone, Copy)]

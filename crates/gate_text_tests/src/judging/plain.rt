@@ -5,15 +5,16 @@ use super::trace_of;
 use crate::same::{same, same_of};
 use crate::streams::image_of_kib;
 use gate_plain_checker::source;
-use hart::{OpId, Retired, Trace};
-use machine_types::Ticks;
+use hart::Retired;
 use memory_model::Operation;
 use std::alloc::{AllocError, Global};
 use std::marker::Brand;
 use std::process::Abort;
 use std::sync::ledger::{Blank, Ledger};
 use std::test::Fail;
+use tl_types::Ticks;
 use trace_operations::{Index, completed};
+use trace_recorder::{OpId, Trace};
 
 /// `lui a2, 0x80001`, then `sw`, `lw`, `sb` at the second byte, `lh`, `amoswap.w`, `lr.w` and `sc.w`, all
 /// of one word.

@@ -23,7 +23,7 @@ use Rattle.memory_model.proofs.Forms.{same-swap}
 use Rattle.memory_model.proofs.Lists.{Each-append, Each-both, Each-right, Each-weaker}
 use Rattle.memory_model.proofs.Named.{EachOnce, each_not}
 use Rattle.store_buffer.specs.Groups.{Groups, has}
-use Rattle.hart.specs.declared.operation.OpId.{OpId}
+use Rattle.trace_recorder.specs.declared.operation.OpId.{OpId}
 
 -- ---- another hart's operations are performed
 

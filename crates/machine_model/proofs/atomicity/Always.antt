@@ -37,7 +37,7 @@ use Rattle.memory_model.specs.Rules.{items_of, paired}
 use Rattle.memory_model.specs.Traces.{completed, instructions, names_in, operations_at}
 use Rattle.memory_model.proofs.Lists.{Each-append, Each-both, Each-weaker, filter_none, list_all-from_Each}
 use Rattle.machine_model.proofs.order.Lists.{Each-always}
-use Rattle.hart.specs.History.{entries_of}
+use Rattle.trace_recorder.specs.History.{entries_of}
 use Rattle.machine_model.proofs.Events.{by_event}
 
 -- ---- events

@@ -30,9 +30,9 @@ use Rattle.reservations.specs.Reservation.{is_valid}
 use Rattle.rv32_decode.specs.declared.instruction.Annotations.{Annotations}
 use Rattle.rv32_exec.specs.Meaning.{Access, Private, Loads, Stores, DoesLr, DoesSc, DoesAmo, Fences, Calls}
 use Rattle.store_buffer.specs.Groups.{Groups, has}
-use Rattle.machine_types.specs.Line.{line_of}
-use Rattle.hart.specs.declared.operation.OpId.{OpId}
-use Rattle.machine_types.specs.declared.line.LineData.{LineData}
+use Rattle.tl_types.specs.Line.{line_of}
+use Rattle.trace_recorder.specs.declared.operation.OpId.{OpId}
+use Rattle.tl_types.specs.declared.line.LineData.{LineData}
 
 -- ---- reservations and pairs
 

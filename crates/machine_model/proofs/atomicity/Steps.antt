@@ -54,11 +54,11 @@ use Rattle.rv32_decode.specs.Rows.{decoded}
 use Rattle.rv32_decode.specs.declared.instruction.Instr.{Instr}
 use Rattle.rv32_exec.specs.Meaning.{Access, Private, Loads, Stores, DoesLr, DoesSc, DoesAmo, Fences, Calls, access_of}
 use Rattle.store_buffer.specs.Groups.{Groups}
-use Rattle.machine_types.specs.Line.{line_of}
-use Rattle.machine_types.specs.declared.permission.Perm.{Perm}
-use Rattle.machine_types.specs.declared.permission.Perm.TheVariants as perm
-use Rattle.hart.specs.History.{History, entries_of}
-use Rattle.hart.specs.declared.operation.OpId.{OpId}
+use Rattle.tl_types.specs.Line.{line_of}
+use Rattle.tl_types.specs.declared.permission.Perm.{Perm}
+use Rattle.tl_types.specs.declared.permission.Perm.TheVariants as perm
+use Rattle.trace_recorder.specs.History.{History, entries_of}
+use Rattle.trace_recorder.specs.declared.operation.OpId.{OpId}
 
 pub record AllAtomic (s : State) : Type 0 where
   pub each : (h : ℕ) → h < s.views.config.harts → Atomic h (items_at s.trace h) (node_at s h).reserved (done s.trace)

@@ -44,10 +44,10 @@ use Rattle.store_buffer.specs.Stores.{entries_of, is_to_word, merged}
 use Rattle.store_buffer.specs.declared.entry.Entry.{Entry}
 use Rattle.store_buffer.specs.declared.entry.Store.{Store}
 use Rattle.store_buffer.proofs.StoreLaws.{entry_is_filter}
-use Rattle.machine_types.specs.Line.{length_of}
-use Rattle.machine_types.specs.declared.line.LineData.{LineData}
-use Rattle.machine_types.specs.declared.line.LineSize.{LineSize}
-use Rattle.hart.specs.History.{History}
+use Rattle.tl_types.specs.Line.{length_of}
+use Rattle.tl_types.specs.declared.line.LineData.{LineData}
+use Rattle.tl_types.specs.declared.line.LineSize.{LineSize}
+use Rattle.trace_recorder.specs.History.{History}
 
 -- each line of memory, by its last write, has the bytes that were performed last
 abbrev pub Agrees : State → (ℕ → LineData) → Type 0

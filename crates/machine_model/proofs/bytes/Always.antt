@@ -30,8 +30,8 @@ use Rattle.machine_model.proofs.coherence.WorldFits.{IsFit}
 use Rattle.machine_model.proofs.coherence.WorldOpening.{one_writer, opening_is_fit, opening_last}
 use Rattle.machine_model.proofs.coherence.WorldSteps.{last_after}
 use Rattle.memory_model.specs.Traces.{last_performed}
-use Rattle.machine_types.specs.Line.{length_of}
-use Rattle.machine_types.specs.declared.line.LineData.{LineData}
+use Rattle.tl_types.specs.Line.{length_of}
+use Rattle.tl_types.specs.declared.line.LineData.{LineData}
 use Rattle.machine_model.proofs.Events.{by_event}
 
 -- the lines' last writes fit the state, and have the bytes that were performed last

@@ -16,11 +16,11 @@ use Rattle.machine_model.proofs.coherence.LineKept.{not_eq, split}
 use Rattle.machine_model.proofs.coherence.LinePlaces.{IsPiece, piece, place_inside}
 use Rattle.machine_model.proofs.coherence.WorldSteps.{wrote_word}
 use Rattle.store_buffer.specs.ByteMask.{is_marked}
-use Rattle.machine_types.specs.Line.{bytes_of, length_of, line_of, size_of}
-use Rattle.machine_types.specs.declared.line.LineData.{LineData}
-use Rattle.machine_types.specs.declared.line.LineData.TheVariants as data_of
-use Rattle.machine_types.specs.declared.line.LineSize.{LineSize}
-use Rattle.machine_types.specs.declared.line.LineSize.TheVariants.{Bytes16, Bytes64}
+use Rattle.tl_types.specs.Line.{bytes_of, length_of, line_of, size_of}
+use Rattle.tl_types.specs.declared.line.LineData.{LineData}
+use Rattle.tl_types.specs.declared.line.LineData.TheVariants as data_of
+use Rattle.tl_types.specs.declared.line.LineSize.{LineSize}
+use Rattle.tl_types.specs.declared.line.LineSize.TheVariants.{Bytes16, Bytes64}
 
 pub record IsOf (size : LineSize) (memory : ℕ → ℕ) (l : ℕ) (line : LineData) : Type 0 where
   pub sized : size_of line ≡ size

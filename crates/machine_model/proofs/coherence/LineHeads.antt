@@ -1,12 +1,12 @@
 -- Which messages can stand in front of a queue.
 use Rattle.std.proofs.Common.{List, [], ◌∷◌, ◌≡◌, Some, None, refl}
 use Rattle.machine_model.proofs.coherence.LineStands.{Side, Part, Stands, IsReader, Asks, Leaves, Left, HoldsProbed, AsksProbed, LeavesProbed, LeftProbed, HoldsAnswered, AsksAnswered, LeavesAnswered, Receives, Upgrades, HoldsGranted, AsksGranted, LeavesGranted, LeftGranted}
-use Rattle.machine_types.specs.Message.{channel_of_body}
-use Rattle.machine_types.specs.declared.line.LineData.{LineData}
-use Rattle.machine_types.specs.declared.message.Body.{Body}
-use Rattle.machine_types.specs.declared.message.Body.TheVariants.{Grant, GrantData}
-use Rattle.machine_types.specs.declared.message.Channel.{Channel}
-use Rattle.machine_types.specs.declared.message.Channel.TheVariants.{A, B, C, D, E}
+use Rattle.tl_types.specs.Message.{channel_of_body}
+use Rattle.tl_types.specs.declared.line.LineData.{LineData}
+use Rattle.tl_types.specs.declared.message.Body.{Body}
+use Rattle.tl_types.specs.declared.message.Body.TheVariants.{Grant, GrantData}
+use Rattle.tl_types.specs.declared.message.Channel.{Channel}
+use Rattle.tl_types.specs.declared.message.Channel.TheVariants.{A, B, C, D, E}
 
 abbrev pub queue_in : Side → Channel → List Body
 queue_in x A = x.a

@@ -10,13 +10,13 @@ use Rattle.directory.specs.declared.answer.Transaction.TheVariants.{Idle, Probin
 use Rattle.directory.specs.Lines.{conflicts}
 use Rattle.machine_model.specs.Deliveries.{is_trunk}
 use Rattle.machine_model.proofs.coherence.LineStands.{Side, wrote, probe, given, Part, Alone, Probed, Asking, Taking, Holds, Asks, Leaves, Left, Waits, Stands, Lowers, owes, Moves, Takes, not_conflicting, is_writer, noted_writer, owes_nothing, write_stands, elsewhere, probe_stands, give_stands, rest_stands}
-use Rattle.machine_types.specs.Permission.{granted_for, named_by}
-use Rattle.machine_types.specs.declared.line.LineData.{LineData}
-use Rattle.machine_types.specs.declared.message.Body.{Body}
-use Rattle.machine_types.specs.declared.permission.Grow.{Grow}
-use Rattle.machine_types.specs.declared.permission.Grow.TheVariants.{NtoB, NtoT, BtoT}
-use Rattle.machine_types.specs.declared.permission.Perm.{Perm}
-use Rattle.machine_types.specs.declared.permission.Perm.TheVariants.{Nothing, Branch, Trunk}
+use Rattle.tl_types.specs.Permission.{granted_for, named_by}
+use Rattle.tl_types.specs.declared.line.LineData.{LineData}
+use Rattle.tl_types.specs.declared.message.Body.{Body}
+use Rattle.tl_types.specs.declared.permission.Grow.{Grow}
+use Rattle.tl_types.specs.declared.permission.Grow.TheVariants.{NtoB, NtoT, BtoT}
+use Rattle.tl_types.specs.declared.permission.Perm.{Perm}
+use Rattle.tl_types.specs.declared.permission.Perm.TheVariants.{Nothing, Branch, Trunk}
 
 -- the part that a transaction gives a hart
 abbrev pub part_of : Transaction → ℕ → Part

@@ -7,9 +7,9 @@ use Rattle.elf_loader.specs.Image.{Initial, end_of}
 use Rattle.elf_loader.specs.Size.{base}
 use Rattle.machine_model.specs.Events.{is_piece}
 use Rattle.machine_model.specs.Views.{place_of}
-use Rattle.machine_types.specs.Line.{length_of}
-use Rattle.machine_types.specs.declared.line.LineSize.{LineSize}
-use Rattle.machine_types.specs.declared.line.LineSize.TheVariants.{Bytes16, Bytes64}
+use Rattle.tl_types.specs.Line.{length_of}
+use Rattle.tl_types.specs.declared.line.LineSize.{LineSize}
+use Rattle.tl_types.specs.declared.line.LineSize.TheVariants.{Bytes16, Bytes64}
 
 -- how many lines memory has
 abbrev pub count_of : Initial → LineSize → ℕ

@@ -20,14 +20,14 @@ use Rattle.machine_model.proofs.coherence.LineViews.{of_line, front_here, missed
 use Rattle.machine_model.proofs.coherence.WorldFits.{Framed, IsFit, fits, framed_again, framed_node, framed_sent, framed_taken, kit_at, kit_changed, kit_of, less_reserved, same_reserved}
 use Rattle.machine_model.proofs.coherence.WorldKept.{IsWell, side, is_line, front_line, acts}
 use Rattle.tilelink_channels.specs.Queues.{popped, pushed}
-use Rattle.machine_types.specs.declared.line.LineData.{LineData}
-use Rattle.machine_types.specs.declared.message.Body.{Body}
-use Rattle.machine_types.specs.declared.message.Body.TheVariants.{AcquireBlock, ProbeBlock, ReleaseAck, GrantAck}
-use Rattle.machine_types.specs.declared.message.Channel.TheVariants.{B, D}
-use Rattle.machine_types.specs.declared.message.Msg.{Msg}
-use Rattle.machine_types.specs.declared.permission.Cap.{Cap}
-use Rattle.machine_types.specs.declared.permission.Change.{Change}
-use Rattle.machine_types.specs.declared.permission.Grow.{Grow}
+use Rattle.tl_types.specs.declared.line.LineData.{LineData}
+use Rattle.tl_types.specs.declared.message.Body.{Body}
+use Rattle.tl_types.specs.declared.message.Body.TheVariants.{AcquireBlock, ProbeBlock, ReleaseAck, GrantAck}
+use Rattle.tl_types.specs.declared.message.Channel.TheVariants.{B, D}
+use Rattle.tl_types.specs.declared.message.Msg.{Msg}
+use Rattle.tl_types.specs.declared.permission.Cap.{Cap}
+use Rattle.tl_types.specs.declared.permission.Change.{Change}
+use Rattle.tl_types.specs.declared.permission.Grow.{Grow}
 use Rattle.machine_model.proofs.CacheCalls.{evicted_shape, probed_shape, wanted_keeps}
 
 module _ (s : State) (last : ℕ → LineData) (i : IsFit s last) (h : ℕ) (in_h : h < length s.views.nodes) where

@@ -31,15 +31,15 @@ use Rattle.machine_model.proofs.coherence.WorldFits.{Framed, IsFit, HoldsReserve
 use Rattle.machine_model.proofs.coherence.WorldKept.{IsWell, side, is_line, front_line}
 use Rattle.machine_model.proofs.coherence.WorldManager.{ends, grants, grants_at_once, nothing_conflicts, own_unprobed, probes, pushed_grant, takes}
 use Rattle.tilelink_channels.specs.Queues.{popped, pushed}
-use Rattle.machine_types.specs.declared.line.LineData.{LineData}
-use Rattle.machine_types.specs.declared.message.Body.{Body}
-use Rattle.machine_types.specs.declared.message.Body.TheVariants.{AcquireBlock, ProbeBlock, ProbeAck, ProbeAckData, Release, ReleaseData, ReleaseAck, GrantAck}
-use Rattle.machine_types.specs.declared.message.Channel.TheVariants.{A, C, E}
-use Rattle.machine_types.specs.declared.message.Msg.{Msg}
-use Rattle.machine_types.specs.declared.permission.Cap.{Cap}
-use Rattle.machine_types.specs.declared.permission.Change.{Change}
-use Rattle.machine_types.specs.declared.permission.Grow.{Grow}
-use Rattle.machine_types.specs.declared.permission.Perm.TheVariants.{Nothing}
+use Rattle.tl_types.specs.declared.line.LineData.{LineData}
+use Rattle.tl_types.specs.declared.message.Body.{Body}
+use Rattle.tl_types.specs.declared.message.Body.TheVariants.{AcquireBlock, ProbeBlock, ProbeAck, ProbeAckData, Release, ReleaseData, ReleaseAck, GrantAck}
+use Rattle.tl_types.specs.declared.message.Channel.TheVariants.{A, C, E}
+use Rattle.tl_types.specs.declared.message.Msg.{Msg}
+use Rattle.tl_types.specs.declared.permission.Cap.{Cap}
+use Rattle.tl_types.specs.declared.permission.Change.{Change}
+use Rattle.tl_types.specs.declared.permission.Grow.{Grow}
+use Rattle.tl_types.specs.declared.permission.Perm.TheVariants.{Nothing}
 
 -- caches and reservations stay, and the harts are as many
 pub record KeepsCaches (s t : State) : Type 0 where

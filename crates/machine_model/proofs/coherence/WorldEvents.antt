@@ -37,16 +37,16 @@ use Rattle.rv32_decode.specs.declared.instruction.SystemOp.TheVariants.{Ecall, E
 use Rattle.rv32_exec.specs.Arithmetic.{bytes_loaded}
 use Rattle.rv32_exec.specs.Meaning.{Access, DoesLr, DoesSc, DoesAmo, access_of, access_stop, stop_of}
 use Rattle.tilelink_channels.specs.Queues.{front_of, popped, queue_of}
-use Rattle.machine_types.specs.Line.{length_of, line_of}
-use Rattle.machine_types.specs.Message.{channel_of_body}
-use Rattle.machine_types.specs.declared.line.LineData.{LineData}
-use Rattle.machine_types.specs.declared.line.LineSize.{LineSize}
-use Rattle.machine_types.specs.declared.line.LineSize.TheVariants.{Bytes16, Bytes64}
-use Rattle.machine_types.specs.declared.message.Body.{Body}
-use Rattle.machine_types.specs.declared.message.Body.TheVariants.{AcquireBlock, ProbeBlock, ProbeAck, ProbeAckData, Release, ReleaseData, Grant, GrantData, ReleaseAck, GrantAck}
-use Rattle.machine_types.specs.declared.message.Channel.{Channel}
-use Rattle.machine_types.specs.declared.message.Channel.TheVariants.{A, B, C, D, E}
-use Rattle.machine_types.specs.declared.message.Msg.{Msg}
+use Rattle.tl_types.specs.Line.{length_of, line_of}
+use Rattle.tl_types.specs.Message.{channel_of_body}
+use Rattle.tl_types.specs.declared.line.LineData.{LineData}
+use Rattle.tl_types.specs.declared.line.LineSize.{LineSize}
+use Rattle.tl_types.specs.declared.line.LineSize.TheVariants.{Bytes16, Bytes64}
+use Rattle.tl_types.specs.declared.message.Body.{Body}
+use Rattle.tl_types.specs.declared.message.Body.TheVariants.{AcquireBlock, ProbeBlock, ProbeAck, ProbeAckData, Release, ReleaseData, Grant, GrantData, ReleaseAck, GrantAck}
+use Rattle.tl_types.specs.declared.message.Channel.{Channel}
+use Rattle.tl_types.specs.declared.message.Channel.TheVariants.{A, B, C, D, E}
+use Rattle.tl_types.specs.declared.message.Msg.{Msg}
 use Rattle.hart.specs.declared.retired.Retired.{Retired}
 use Rattle.machine_model.specs.Deliveries.{delivered}
 use Rattle.machine_model.proofs.Events.{IsMove, by_event}

@@ -15,14 +15,14 @@ use Rattle.machine_model.proofs.coherence.WorldKept.{Kit, KitChanged, IsWell}
 use Rattle.machine_types.specs.declared.config.Config.{Config}
 use Rattle.reservations.specs.Reservation.{lies_in, without_line}
 use Rattle.tilelink_channels.specs.Queues.{popped, pushed}
-use Rattle.machine_types.specs.Line.{line_of}
-use Rattle.machine_types.specs.Message.{channel_of}
-use Rattle.machine_types.specs.declared.line.LineData.{LineData}
-use Rattle.machine_types.specs.declared.line.LineSize.{LineSize}
-use Rattle.machine_types.specs.declared.line.LineSize.TheVariants.{Bytes16, Bytes64}
-use Rattle.machine_types.specs.declared.message.Msg.{Msg}
+use Rattle.tl_types.specs.Line.{line_of}
+use Rattle.tl_types.specs.Message.{channel_of}
+use Rattle.tl_types.specs.declared.line.LineData.{LineData}
+use Rattle.tl_types.specs.declared.line.LineSize.{LineSize}
+use Rattle.tl_types.specs.declared.line.LineSize.TheVariants.{Bytes16, Bytes64}
+use Rattle.tl_types.specs.declared.message.Msg.{Msg}
 use Rattle.directory.specs.Directory.{Notes}
-use Rattle.hart.specs.History.{History}
+use Rattle.trace_recorder.specs.History.{History}
 
 abbrev pub kit_of : Node → Kit
 kit_of n = record { cache = n.cache; queues = n.queues }

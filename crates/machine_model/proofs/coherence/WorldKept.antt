@@ -19,11 +19,11 @@ use Rattle.machine_model.proofs.coherence.LinePlaces.{count_of, place_inside, pl
 use Rattle.machine_model.proofs.coherence.LineStands.{Side, quiet_side, Moves, wrote}
 use Rattle.machine_model.proofs.coherence.LineViews.{seen}
 use Rattle.tilelink_channels.specs.Queues.{Waiting}
-use Rattle.machine_types.specs.Line.{length_of}
-use Rattle.machine_types.specs.declared.line.LineData.{LineData}
-use Rattle.machine_types.specs.declared.line.LineSize.{LineSize}
-use Rattle.machine_types.specs.declared.message.Body.{Body}
-use Rattle.machine_types.specs.declared.permission.Grow.{Grow}
+use Rattle.tl_types.specs.Line.{length_of}
+use Rattle.tl_types.specs.declared.line.LineData.{LineData}
+use Rattle.tl_types.specs.declared.line.LineSize.{LineSize}
+use Rattle.tl_types.specs.declared.message.Body.{Body}
+use Rattle.tl_types.specs.declared.permission.Grow.{Grow}
 
 -- what coherence asks of a hart
 pub record Kit : Type 0 where

@@ -21,15 +21,15 @@ use Rattle.machine_model.proofs.coherence.LineStands.{Side, Alone, Asking, Stand
 use Rattle.machine_model.proofs.coherence.LineViews.{of_line, of_line_same, pushed_elsewhere}
 use Rattle.machine_model.proofs.coherence.WorldKept.{Kit, KitChanged, side, is_line, place, entry, sides, IsWell, step}
 use Rattle.tilelink_channels.specs.Queues.{Waiting, pushed}
-use Rattle.machine_types.specs.Permission.{granted_for, named_by}
-use Rattle.machine_types.specs.declared.line.LineData.{LineData}
-use Rattle.machine_types.specs.declared.line.LineSize.{LineSize}
-use Rattle.machine_types.specs.declared.message.Body.{Body}
-use Rattle.machine_types.specs.declared.message.Body.TheVariants.{AcquireBlock, ProbeBlock, Grant, GrantData, GrantAck}
-use Rattle.machine_types.specs.declared.message.Msg.{Msg}
-use Rattle.machine_types.specs.declared.permission.Grow.{Grow}
-use Rattle.machine_types.specs.declared.permission.Grow.TheVariants.{NtoB, NtoT, BtoT}
-use Rattle.machine_types.specs.declared.permission.Perm.TheVariants.{Nothing}
+use Rattle.tl_types.specs.Permission.{granted_for, named_by}
+use Rattle.tl_types.specs.declared.line.LineData.{LineData}
+use Rattle.tl_types.specs.declared.line.LineSize.{LineSize}
+use Rattle.tl_types.specs.declared.message.Body.{Body}
+use Rattle.tl_types.specs.declared.message.Body.TheVariants.{AcquireBlock, ProbeBlock, Grant, GrantData, GrantAck}
+use Rattle.tl_types.specs.declared.message.Msg.{Msg}
+use Rattle.tl_types.specs.declared.permission.Grow.{Grow}
+use Rattle.tl_types.specs.declared.permission.Grow.TheVariants.{NtoB, NtoT, BtoT}
+use Rattle.tl_types.specs.declared.permission.Perm.TheVariants.{Nothing}
 
 -- a Grant goes to queue D, with data or without
 pub pushed_grant : (w : Waiting) (l : ℕ) (g : Granting) (bytes : LineData) → pushed w (record { line = l; body = grant_body g bytes }) ≡ record w { d = w.d ++ (record { line = l; body = grant_body g bytes }) ∷ [] }

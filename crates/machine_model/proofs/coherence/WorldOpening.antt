@@ -27,11 +27,11 @@ use Rattle.machine_model.proofs.coherence.LineStands.{Alone, Holds, Side, Stands
 use Rattle.machine_model.proofs.coherence.WorldFits.{IsFit, kit_at, kit_of}
 use Rattle.machine_model.proofs.coherence.WorldKept.{Kit, IsWell, is_line, side}
 use Rattle.machine_model.proofs.coherence.WorldSteps.{Fits}
-use Rattle.machine_types.specs.Line.{length_of}
-use Rattle.machine_types.specs.declared.line.LineData.{LineData}
-use Rattle.machine_types.specs.declared.line.LineSize.{LineSize}
-use Rattle.machine_types.specs.declared.line.LineSize.TheVariants.{Bytes16, Bytes64}
-use Rattle.machine_types.specs.declared.permission.Perm.TheVariants.{Nothing, Trunk}
+use Rattle.tl_types.specs.Line.{length_of}
+use Rattle.tl_types.specs.declared.line.LineData.{LineData}
+use Rattle.tl_types.specs.declared.line.LineSize.{LineSize}
+use Rattle.tl_types.specs.declared.line.LineSize.TheVariants.{Bytes16, Bytes64}
+use Rattle.tl_types.specs.declared.permission.Perm.TheVariants.{Nothing, Trunk}
 
 pub same_everywhere : {A : Type 0} (n : ℕ) (x : A) (j : ℕ) → slice_index_or (replicate n x) j x ≡ x
 same_everywhere n x j = go (cases_lt j n)

@@ -18,11 +18,11 @@ use Rattle.machine_model.proofs.coherence.WorldFits.{kit_at}
 use Rattle.machine_model.proofs.coherence.WorldKept.{is_line, side}
 use Rattle.machine_model.proofs.coherence.WorldOpening.{opening_fits}
 use Rattle.machine_model.proofs.coherence.WorldSteps.{Fits}
-use Rattle.machine_types.specs.declared.line.LineData.{LineData}
-use Rattle.machine_types.specs.declared.message.Body.{Body}
-use Rattle.machine_types.specs.declared.message.Body.TheVariants.{Grant, GrantData}
-use Rattle.machine_types.specs.declared.message.Msg.{Msg}
-use Rattle.machine_types.specs.declared.permission.Perm.TheVariants.{Branch}
+use Rattle.tl_types.specs.declared.line.LineData.{LineData}
+use Rattle.tl_types.specs.declared.message.Body.{Body}
+use Rattle.tl_types.specs.declared.message.Body.TheVariants.{Grant, GrantData}
+use Rattle.tl_types.specs.declared.message.Msg.{Msg}
+use Rattle.tl_types.specs.declared.permission.Perm.TheVariants.{Branch}
 
 -- a body among those of a queue
 abbrev Member : List Body → Body → Type 0

@@ -36,10 +36,10 @@ use Rattle.store_buffer.specs.ByteMask.{marks_of_access}
 use Rattle.store_buffer.specs.Entry.{entry_of}
 use Rattle.store_buffer.specs.Groups.{Groups, after_seal, after_take, oldest}
 use Rattle.store_buffer.specs.declared.entry.Entry.{Entry}
-use Rattle.machine_types.specs.Line.{line_of}
-use Rattle.machine_types.specs.declared.line.LineData.{LineData}
-use Rattle.machine_types.specs.declared.line.LineSize.{LineSize}
-use Rattle.hart.specs.History.{History, with_entry, with_performed}
+use Rattle.tl_types.specs.Line.{line_of}
+use Rattle.tl_types.specs.declared.line.LineData.{LineData}
+use Rattle.tl_types.specs.declared.line.LineSize.{LineSize}
+use Rattle.trace_recorder.specs.History.{History, with_entry, with_performed}
 
 -- the hart may write the word
 abbrev pub MayWrite : State → ℕ → ℕ → Type 0

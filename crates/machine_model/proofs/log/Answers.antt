@@ -19,13 +19,13 @@ use Rattle.machine_model.proofs.Events.{Anything, IsMove, events_keep}
 use Rattle.machine_model.proofs.log.Counts.{EachSent, NoneTooMany, Owes, no_last, none_in, none_out, one_sent, one_taken, owes_out}
 use Rattle.machine_model.proofs.log.Lists.{comes_out, goes_in}
 use Rattle.machine_model.proofs.log.Queues.{Quiet}
-use Rattle.machine_types.specs.declared.line.LineData.{LineData}
-use Rattle.machine_types.specs.declared.message.Body.{Body}
-use Rattle.machine_types.specs.declared.message.Body.TheVariants.{ProbeBlock, ProbeAck, ProbeAckData, ReleaseAck, GrantAck}
-use Rattle.machine_types.specs.declared.message.Msg.{Msg}
-use Rattle.machine_types.specs.declared.permission.Cap.{Cap}
-use Rattle.machine_types.specs.declared.permission.Change.{Change}
-use Rattle.hart.specs.declared.logged.Logged.{Logged}
+use Rattle.tl_types.specs.declared.line.LineData.{LineData}
+use Rattle.tl_types.specs.declared.message.Body.{Body}
+use Rattle.tl_types.specs.declared.message.Body.TheVariants.{ProbeBlock, ProbeAck, ProbeAckData, ReleaseAck, GrantAck}
+use Rattle.tl_types.specs.declared.message.Msg.{Msg}
+use Rattle.tl_types.specs.declared.permission.Cap.{Cap}
+use Rattle.tl_types.specs.declared.permission.Change.{Change}
+use Rattle.trace_recorder.specs.declared.logged.Logged.{Logged}
 
 abbrev IsDue : ℕ → Msg → List Logged → Type 0
 IsDue h m log = IsTrue (is_due m.body h m.line log)

@@ -25,14 +25,14 @@ use Rattle.machine_model.proofs.log.Acts.{IsManaging, Still, still_node}
 use Rattle.machine_model.proofs.log.Counts.{EachSent, bit, one_sent, one_taken}
 use Rattle.machine_model.proofs.log.Lists.{comes_out, goes_in}
 use Rattle.machine_model.proofs.log.Flags.{Tells, Turned, balance, comes, goes, no_bit, settled, still_tells}
-use Rattle.machine_types.specs.declared.line.LineData.{LineData}
-use Rattle.machine_types.specs.declared.message.Body.{Body}
-use Rattle.machine_types.specs.declared.message.Body.TheVariants.{AcquireBlock, ProbeBlock, ProbeAck, ProbeAckData, Release, ReleaseData, Grant, GrantData, GrantAck}
-use Rattle.machine_types.specs.declared.message.Msg.{Msg}
-use Rattle.machine_types.specs.declared.permission.Cap.{Cap}
-use Rattle.machine_types.specs.declared.permission.Change.{Change}
-use Rattle.machine_types.specs.declared.permission.Grow.{Grow}
-use Rattle.hart.specs.declared.logged.Logged.{Logged}
+use Rattle.tl_types.specs.declared.line.LineData.{LineData}
+use Rattle.tl_types.specs.declared.message.Body.{Body}
+use Rattle.tl_types.specs.declared.message.Body.TheVariants.{AcquireBlock, ProbeBlock, ProbeAck, ProbeAckData, Release, ReleaseData, Grant, GrantData, GrantAck}
+use Rattle.tl_types.specs.declared.message.Msg.{Msg}
+use Rattle.tl_types.specs.declared.permission.Cap.{Cap}
+use Rattle.tl_types.specs.declared.permission.Change.{Change}
+use Rattle.tl_types.specs.declared.permission.Grow.{Grow}
+use Rattle.trace_recorder.specs.declared.logged.Logged.{Logged}
 use Rattle.machine_model.proofs.CacheCalls.{by_probed}
 use Rattle.machine_model.proofs.Parts.{by_answered}
 

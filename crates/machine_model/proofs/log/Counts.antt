@@ -9,9 +9,9 @@ use mathlib.Core.Logic.{◌⊎◌, inl, inr}
 use native.Mathlib.Omega.{arith}
 use Rattle.machine_model.specs.LawfulLog.{concerns, is_sent, sent_count, taken_count}
 use Rattle.machine_model.proofs.log.Lists.{comes_out, goes_in}
-use Rattle.machine_types.specs.declared.message.Body.{Body}
-use Rattle.machine_types.specs.declared.message.Msg.{Msg}
-use Rattle.hart.specs.declared.logged.Logged.{Logged}
+use Rattle.tl_types.specs.declared.message.Body.{Body}
+use Rattle.tl_types.specs.declared.message.Msg.{Msg}
+use Rattle.trace_recorder.specs.declared.logged.Logged.{Logged}
 
 -- ---- each message that went in
 

@@ -18,8 +18,8 @@ use Rattle.machine_model.proofs.log.Lists.{no_first}
 use Rattle.machine_model.proofs.log.Fronts.{front_of_move}
 use Rattle.machine_model.proofs.log.Queues.{IsInOrder, IsQueueOrder, quiet_order, sent_order, taken_order}
 use Rattle.tilelink_channels.specs.Queues.{queue_of}
-use Rattle.machine_types.specs.declared.message.Channel.{Channel}
-use Rattle.machine_types.specs.declared.message.Channel.TheVariants.{A, B, C, D, E}
+use Rattle.tl_types.specs.declared.message.Channel.{Channel}
+use Rattle.tl_types.specs.declared.message.Channel.TheVariants.{A, B, C, D, E}
 
 delivers : (s : State) (e : Event) (a : Act) → IsInOrder s → IsMove s e a → Delivers IsInOrder s (hart_of e) a
 delivers s e (act.Deliver m) i k =

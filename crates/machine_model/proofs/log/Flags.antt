@@ -14,8 +14,8 @@ use Rattle.machine_model.specs.Views.{Node, State, no_node, node_at}
 use Rattle.machine_model.proofs.log.Counts.{bit, sent_in, sent_out, taken_in, taken_out}
 use Rattle.machine_model.proofs.log.Lists.{comes_out, goes_in}
 use Rattle.machine_model.proofs.log.Queues.{same_within}
-use Rattle.machine_types.specs.declared.message.Body.{Body}
-use Rattle.machine_types.specs.declared.message.Msg.{Msg}
+use Rattle.tl_types.specs.declared.message.Body.{Body}
+use Rattle.tl_types.specs.declared.message.Msg.{Msg}
 
 pub no_bit : (w b : Bool) → b ≡ false → bit (w && b) ≡ 0
 no_bit true b e = ap bit e

@@ -6,8 +6,8 @@ use Rattle.machine_model.specs.declared.act.Act.TheVariants as act
 use Rattle.machine_types.specs.declared.event.Event.{Event}
 use Rattle.machine_model.proofs.log.Queues.{IsInOrder, front_channel}
 use Rattle.tilelink_channels.specs.Queues.{front_of, queue_of}
-use Rattle.machine_types.specs.Message.{channel_of}
-use Rattle.machine_types.specs.declared.message.Msg.{Msg}
+use Rattle.tl_types.specs.Message.{channel_of}
+use Rattle.tl_types.specs.declared.message.Msg.{Msg}
 use Rattle.machine_model.proofs.Events.{IsMove}
 
 -- the message is in front of its own channel's queue

@@ -3,11 +3,11 @@ use Rattle.std.proofs.Common.{ℕ, ◌≡◌, Bool, true, List, ◌∷◌, ◌++
 use Rattle.std.specs.Prelude.{not, ◌||◌, IsTrue}
 use Rattle.machine_model.specs.LawfulLog.{IsLogInOrder, concerns, is_grant, is_grant_ack, is_owed, is_probe, is_probe_ack, is_release, is_release_ack, may_send}
 use Rattle.machine_model.specs.Laws.{Always}
-use Rattle.machine_types.specs.declared.message.Body.{Body}
-use Rattle.machine_types.specs.declared.message.Body.TheVariants.{ProbeAck, ProbeAckData, ReleaseAck, GrantAck}
-use Rattle.machine_types.specs.declared.message.Msg.{Msg}
-use Rattle.hart.specs.declared.logged.Direction.TheVariants.{Sent}
-use Rattle.hart.specs.declared.logged.Logged.{Logged}
+use Rattle.tl_types.specs.declared.message.Body.{Body}
+use Rattle.tl_types.specs.declared.message.Body.TheVariants.{ProbeAck, ProbeAckData, ReleaseAck, GrantAck}
+use Rattle.tl_types.specs.declared.message.Msg.{Msg}
+use Rattle.trace_recorder.specs.declared.logged.Direction.TheVariants.{Sent}
+use Rattle.trace_recorder.specs.declared.logged.Logged.{Logged}
 
 abbrev pub LogInOrderAlways : Type 0
 LogInOrderAlways = Always (λ image config s. IsLogInOrder s.trace.log)

@@ -12,12 +12,12 @@ use Rattle.machine_model.specs.LawfulLog.{IsBeginningOf, is_on, is_sent, sent_on
 use Rattle.machine_model.specs.Views.{Node, State, no_node, node_at, sent, with_node, with_trace}
 use Rattle.machine_model.proofs.log.Lists.{EachMoment, comes_first, comes_out, goes_behind, goes_in, is_in, one_more, part, sent_on_sent, sent_on_taken, taken_on_sent, taken_on_taken}
 use Rattle.tilelink_channels.specs.Queues.{Waiting, behind, queue_of, with_queue}
-use Rattle.machine_types.specs.Message.{channel_of}
-use Rattle.machine_types.specs.declared.message.Channel.{Channel}
-use Rattle.machine_types.specs.declared.message.Channel.TheVariants.{A, B, C, D, E}
-use Rattle.machine_types.specs.declared.message.Msg.{Msg}
-use Rattle.hart.specs.History.{History}
-use Rattle.hart.specs.declared.logged.Logged.{Logged}
+use Rattle.tl_types.specs.Message.{channel_of}
+use Rattle.tl_types.specs.declared.message.Channel.{Channel}
+use Rattle.tl_types.specs.declared.message.Channel.TheVariants.{A, B, C, D, E}
+use Rattle.tl_types.specs.declared.message.Msg.{Msg}
+use Rattle.trace_recorder.specs.History.{History}
+use Rattle.trace_recorder.specs.declared.logged.Logged.{Logged}
 
 -- ---- one queue changes
 

@@ -10,14 +10,14 @@ use Rattle.machine_model.proofs.log.Counts.{NoneTooMany, Owes, none_in, none_out
 use Rattle.machine_model.proofs.log.manager.Numbers.{grant_acks_on, grants_on, probe_acks_on, probes_on}
 use Rattle.machine_model.proofs.log.manager.Queues.{GoesOn, few_taken}
 use Rattle.machine_model.proofs.log.manager.Sums.{sums_settle}
-use Rattle.machine_types.specs.declared.message.Body.{Body}
-use Rattle.machine_types.specs.declared.message.Body.TheVariants.{ProbeAck, ProbeAckData, GrantAck}
-use Rattle.machine_types.specs.declared.message.Channel.{Channel}
-use Rattle.machine_types.specs.declared.message.Channel.TheVariants.{B, C, D, E}
-use Rattle.machine_types.specs.declared.message.Msg.{Msg}
-use Rattle.hart.specs.declared.logged.Direction.{Direction}
-use Rattle.hart.specs.declared.logged.Direction.TheVariants.{Sent, Taken}
-use Rattle.hart.specs.declared.logged.Logged.{Logged}
+use Rattle.tl_types.specs.declared.message.Body.{Body}
+use Rattle.tl_types.specs.declared.message.Body.TheVariants.{ProbeAck, ProbeAckData, GrantAck}
+use Rattle.tl_types.specs.declared.message.Channel.{Channel}
+use Rattle.tl_types.specs.declared.message.Channel.TheVariants.{B, C, D, E}
+use Rattle.tl_types.specs.declared.message.Msg.{Msg}
+use Rattle.trace_recorder.specs.declared.logged.Direction.{Direction}
+use Rattle.trace_recorder.specs.declared.logged.Direction.TheVariants.{Sent, Taken}
+use Rattle.trace_recorder.specs.declared.logged.Logged.{Logged}
 
 -- an answer is only sent where it is owed
 abbrev OwedToSend : (question answer : Body → Bool) → Type 0

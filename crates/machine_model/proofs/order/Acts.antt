@@ -31,7 +31,7 @@ use Rattle.rv32_decode.specs.declared.instruction.Instr.{Instr}
 use Rattle.rv32_exec.specs.Meaning.{Access, Private, Loads, Stores, DoesLr, DoesSc, DoesAmo, Fences, Calls, access_of, effect_of, stop_of}
 use Rattle.rv32_exec.specs.Registers.{after_write}
 use Rattle.store_buffer.specs.Groups.{Groups}
-use Rattle.hart.specs.History.{History, entries_of, with_entry}
+use Rattle.trace_recorder.specs.History.{History, entries_of, with_entry}
 
 -- ---- halts and traces
 

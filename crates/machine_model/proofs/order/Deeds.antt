@@ -18,7 +18,7 @@ use Rattle.memory_model.specs.declared.operation.Kind.TheVariants as kind
 use Rattle.memory_model.specs.Items.{annotations_of}
 use Rattle.memory_model.specs.Rules.{fences}
 use Rattle.reservations.specs.Reservation.{is_valid}
-use Rattle.rv32_decode.specs.Amo.{combined}
+use Rattle.amo_unit.specs.Amo.{combined}
 use Rattle.rv32_decode.specs.declared.instruction.Instr.{Instr}
 use Rattle.rv32_decode.specs.declared.instruction.Instr.TheVariants as instr
 use Rattle.rv32_decode.specs.declared.instruction.LoadOp.{LoadOp}
@@ -31,8 +31,8 @@ use Rattle.rv32_exec.specs.Meaning.{Access, Private, Loads, Stores, DoesLr, Does
 use Rattle.rv32_exec.specs.Uses.{uses_of}
 use Rattle.store_buffer.specs.ByteMask.{covers, laid_over, marks_of_access}
 use Rattle.store_buffer.specs.Groups.{forwarded, is_empty}
-use Rattle.machine_types.specs.Line.{line_of}
-use Rattle.machine_types.specs.declared.line.LineData.{LineData}
+use Rattle.tl_types.specs.Line.{line_of}
+use Rattle.tl_types.specs.declared.line.LineData.{LineData}
 
 -- ---- what a deed has found
 

@@ -33,7 +33,7 @@ use Rattle.memory_model.specs.Items.{Item, items_from}
 use Rattle.rv32_decode.specs.Rows.{decoded}
 use Rattle.rv32_exec.specs.Meaning.{access_of}
 use Rattle.store_buffer.specs.Groups.{Groups, no_groups}
-use Rattle.hart.specs.History.{entries_of}
+use Rattle.trace_recorder.specs.History.{entries_of}
 
 -- ---- acts
 

@@ -10,9 +10,9 @@ use Rattle.machine_model.specs.Words.{word_of}
 use Rattle.machine_model.proofs.order.Bytes.{place_at}
 use Rattle.machine_model.proofs.order.Returns.{AllHold}
 use Rattle.memory_model.specs.Traces.{last_performed}
-use Rattle.machine_types.specs.Line.{bytes_of, length_of, line_of, size_of}
-use Rattle.machine_types.specs.declared.line.LineSize.{LineSize}
-use Rattle.machine_types.specs.declared.line.LineSize.TheVariants.{Bytes16, Bytes64}
+use Rattle.tl_types.specs.Line.{bytes_of, length_of, line_of, size_of}
+use Rattle.tl_types.specs.declared.line.LineSize.{LineSize}
+use Rattle.tl_types.specs.declared.line.LineSize.TheVariants.{Bytes16, Bytes64}
 
 -- every cache and every copy has lines of the machine's size
 pub record CopiesFit (s : State) : Type 0 where

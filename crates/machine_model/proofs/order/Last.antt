@@ -33,7 +33,7 @@ use Rattle.memory_model.specs.Operations.{byte_of_number as number_byte, stores_
 use Rattle.memory_model.specs.Order.{byte_from}
 use Rattle.memory_model.specs.Traces.{image_of, last_performed}
 use Rattle.memory_model.proofs.Lists.{Each-weaker, filter_same, filter_none}
-use Rattle.rv32_decode.specs.Amo.{combined}
+use Rattle.amo_unit.specs.Amo.{combined}
 use Rattle.rv32_decode.specs.Rows.{decoded}
 use Rattle.rv32_decode.specs.declared.instruction.Annotations.{Annotations}
 use Rattle.rv32_decode.specs.declared.instruction.Instr.{Instr}
@@ -41,8 +41,8 @@ use Rattle.rv32_exec.specs.Meaning.{Access, Private, Loads, Stores, DoesLr, Does
 use Rattle.store_buffer.specs.Entry.{marked_byte, entry_of}
 use Rattle.store_buffer.specs.Groups.{oldest}
 use Rattle.store_buffer.proofs.StoreLaws.{byte_is_last}
-use Rattle.hart.specs.History.{History, entries_of}
-use Rattle.hart.specs.declared.operation.OpId.{OpId}
+use Rattle.trace_recorder.specs.History.{History, entries_of}
+use Rattle.trace_recorder.specs.declared.operation.OpId.{OpId}
 
 -- behind more performed operations, a byte is that of the last of them that stores to it
 pub last_more : (old new : History) (out : List Operation) (x : ℕ) → new.image ≡ old.image → done new ≡ done old ++ out → last_performed new x ≡ byte_from (last_performed old) x (last_or None (filter (stores_to x) out))

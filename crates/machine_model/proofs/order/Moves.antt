@@ -29,8 +29,8 @@ use Rattle.store_buffer.specs.Stores.{entries_in, entries_of, is_to_word, is_els
 use Rattle.store_buffer.specs.declared.entry.Entry.{Entry}
 use Rattle.store_buffer.specs.declared.entry.Store.{Store}
 use Rattle.store_buffer.proofs.StoreLaws.{ops_are_filter, oldest_is_first, take_is_drained}
-use Rattle.hart.specs.History.{History}
-use Rattle.hart.specs.declared.operation.OpId.{OpId}
+use Rattle.trace_recorder.specs.History.{History}
+use Rattle.trace_recorder.specs.declared.operation.OpId.{OpId}
 
 pub record OrderKept (s : State) : Type 0 where
   pub each : (h : ℕ) → h < s.views.config.harts → HartKept s.views.config.model h (items_at s.trace h) (node_at s h).buffer (done s.trace)

@@ -34,8 +34,8 @@ use Rattle.memory_model.proofs.Named.{operation_at-bears}
 use Rattle.rv32_decode.specs.Rows.{decoded}
 use Rattle.rv32_decode.specs.declared.instruction.Instr.{Instr}
 use Rattle.rv32_exec.specs.Meaning.{access_of}
-use Rattle.hart.specs.History.{entries_of}
-use Rattle.hart.specs.declared.operation.OpId.{OpId}
+use Rattle.trace_recorder.specs.History.{entries_of}
+use Rattle.trace_recorder.specs.declared.operation.OpId.{OpId}
 
 -- each load of a hart is right, where these are performed
 abbrev pub RightAt : (ℕ → ℕ) → ℕ → List Item → List Operation → Type 0

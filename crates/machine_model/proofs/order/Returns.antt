@@ -31,7 +31,7 @@ use Rattle.memory_model.specs.Operations.{addresses_of, reads, read_at, stores_t
 use Rattle.memory_model.specs.Order.{byte_from, source}
 use Rattle.memory_model.specs.Traces.{completed, image_of, instructions, last_performed, names_from, names_of_harts, names_in, operation_at, operations_at}
 use Rattle.memory_model.proofs.Lists.{Each-append, Each-weaker, Each-both, filter_none, list_all-from_Each}
-use Rattle.hart.specs.History.{entries_of}
+use Rattle.trace_recorder.specs.History.{entries_of}
 use Rattle.machine_model.proofs.Events.{by_event}
 
 -- ---- events

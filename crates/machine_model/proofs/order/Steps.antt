@@ -35,7 +35,7 @@ use Rattle.store_buffer.specs.Groups.{Groups, after_put, after_put_single, after
 use Rattle.store_buffer.specs.Stores.{WaitingStores, entries_in, all_stores, kept_stores, is_to_word, put_behind, sealed_up}
 use Rattle.store_buffer.specs.declared.entry.Store.{Store}
 use Rattle.store_buffer.proofs.StoreLaws.{put_is_behind, put_single_is_behind, seal_is_up, has_is_any_of_all, empty_is_none, sealed_is_some}
-use Rattle.hart.specs.declared.operation.OpId.{OpId}
+use Rattle.trace_recorder.specs.declared.operation.OpId.{OpId}
 
 -- ---- a buffer as groups of operations
 

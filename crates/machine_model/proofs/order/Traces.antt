@@ -16,8 +16,8 @@ use Rattle.memory_model.specs.Verdict.{name_of}
 use Rattle.memory_model.proofs.Lists.{Each-weaker}
 use Rattle.memory_model.proofs.Named.{id-after}
 use Rattle.machine_model.proofs.order.Split.{gave_at}
-use Rattle.hart.specs.History.{History, entries_of}
-use Rattle.hart.specs.declared.operation.OpId.{OpId}
+use Rattle.trace_recorder.specs.History.{History, entries_of}
+use Rattle.trace_recorder.specs.declared.operation.OpId.{OpId}
 
 -- ---- a hart's items
 

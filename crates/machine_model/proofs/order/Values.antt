@@ -21,7 +21,7 @@ use Rattle.memory_model.specs.Verdict.{name_of}
 use Rattle.memory_model.proofs.Forms.{same-self, same-swap, candidates-behind}
 use Rattle.memory_model.proofs.Lists.{Each-append, Each-left, Each-right, Each-weaker, Each-both, Each-kept, filter_same, filter_none}
 use Rattle.store_buffer.specs.Groups.{Groups}
-use Rattle.hart.specs.declared.operation.OpId.{OpId}
+use Rattle.trace_recorder.specs.declared.operation.OpId.{OpId}
 
 -- each byte that an operation of this hart read is that of its source
 pub record IsRight (image : ℕ → ℕ) (h : ℕ) (order : List Operation) (i : Operation) : Type 0 where

@@ -42,8 +42,8 @@ use Rattle.rv32_decode.specs.declared.instruction.Instr.{Instr}
 use Rattle.rv32_decode.specs.declared.instruction.Instr.TheVariants as instr
 use Rattle.rv32_decode.specs.declared.instruction.SystemOp.TheVariants as system
 use Rattle.store_buffer.specs.Groups.{Groups}
-use Rattle.hart.specs.History.{History, entries_of}
-use Rattle.hart.specs.declared.operation.OpId.{OpId}
+use Rattle.trace_recorder.specs.History.{History, entries_of}
+use Rattle.trace_recorder.specs.declared.operation.OpId.{OpId}
 
 -- ---- names and operations
 

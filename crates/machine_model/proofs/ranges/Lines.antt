@@ -22,13 +22,13 @@ use Rattle.memory_model.specs.Order.{byte_from, last_of}
 use Rattle.memory_model.specs.Traces.{image_of, instructions, last_performed, operations_at}
 use Rattle.memory_model.specs.declared.operation.Operation.{Operation}
 use Rattle.tilelink_channels.specs.Queues.{queue_of}
-use Rattle.machine_types.specs.Line.{bytes_of, length_of}
-use Rattle.machine_types.specs.declared.line.LineData.{LineData}
-use Rattle.machine_types.specs.declared.message.Body.{Body}
-use Rattle.machine_types.specs.declared.message.Body.TheVariants.{ProbeAckData, ReleaseData, GrantData}
-use Rattle.machine_types.specs.declared.message.Channel.{Channel}
-use Rattle.machine_types.specs.declared.message.Channel.TheVariants.{A, B, C, D, E}
-use Rattle.machine_types.specs.declared.message.Msg.{Msg}
+use Rattle.tl_types.specs.Line.{bytes_of, length_of}
+use Rattle.tl_types.specs.declared.line.LineData.{LineData}
+use Rattle.tl_types.specs.declared.message.Body.{Body}
+use Rattle.tl_types.specs.declared.message.Body.TheVariants.{ProbeAckData, ReleaseData, GrantData}
+use Rattle.tl_types.specs.declared.message.Channel.{Channel}
+use Rattle.tl_types.specs.declared.message.Channel.TheVariants.{A, B, C, D, E}
+use Rattle.tl_types.specs.declared.message.Msg.{Msg}
 
 -- ---- bytes
 

@@ -30,15 +30,15 @@ use Rattle.machine_model.proofs.ranges.Runs.{named_in_range, runs_in_range}
 use Rattle.machine_model.proofs.ready.Always.{after_one_more, sound_always}
 use Rattle.machine_model.proofs.runs.Runs.{runs_always}
 use Rattle.tilelink_channels.specs.Queues.{queue_of}
-use Rattle.machine_types.specs.Line.{length_of}
-use Rattle.machine_types.specs.Message.{channel_of}
-use Rattle.machine_types.specs.declared.line.LineSize.{LineSize}
-use Rattle.machine_types.specs.declared.message.Channel.{Channel}
-use Rattle.machine_types.specs.declared.message.Channel.TheVariants.{A, B, C, D, E}
-use Rattle.machine_types.specs.declared.message.Msg.{Msg}
-use Rattle.hart.specs.declared.logged.Direction.{Direction}
-use Rattle.hart.specs.declared.logged.Direction.TheVariants.{Sent, Taken}
-use Rattle.hart.specs.declared.logged.Logged.{Logged}
+use Rattle.tl_types.specs.Line.{length_of}
+use Rattle.tl_types.specs.Message.{channel_of}
+use Rattle.tl_types.specs.declared.line.LineSize.{LineSize}
+use Rattle.tl_types.specs.declared.message.Channel.{Channel}
+use Rattle.tl_types.specs.declared.message.Channel.TheVariants.{A, B, C, D, E}
+use Rattle.tl_types.specs.declared.message.Msg.{Msg}
+use Rattle.trace_recorder.specs.declared.logged.Direction.{Direction}
+use Rattle.trace_recorder.specs.declared.logged.Direction.TheVariants.{Sent, Taken}
+use Rattle.trace_recorder.specs.declared.logged.Logged.{Logged}
 use Rattle.machine_model.proofs.Events.{IsMove, by_event}
 
 -- ---- what was taken had been sent before

@@ -11,7 +11,7 @@ use Rattle.machine_model.proofs.coherence.LineStands.{is_writer}
 use Rattle.machine_model.proofs.coherence.WorldFits.{IsFit}
 use Rattle.rv32_decode.specs.declared.instruction.Instr.{Instr}
 use Rattle.rv32_exec.specs.Meaning.{access_of}
-use Rattle.machine_types.specs.declared.line.LineData.{LineData}
+use Rattle.tl_types.specs.declared.line.LineData.{LineData}
 use Rattle.hart.specs.declared.retired.Retired.{Retired}
 use Rattle.machine_model.specs.declared.act.Deed.{Deed}
 use Rattle.machine_model.specs.Ready.{IsReadyAct}

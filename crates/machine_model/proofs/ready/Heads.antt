@@ -4,13 +4,13 @@ use Rattle.std.specs.Prelude.{◌≢◌}
 use Rattle.directory.specs.Lines.{conflicts}
 use Rattle.machine_model.specs.Deliveries.{is_trunk}
 use Rattle.machine_model.proofs.coherence.LineStands.{Side, Part, Stands, Leaves, LeavesProbed, LeavesGranted, HoldsAnswered, AsksAnswered, LeavesAnswered, Receives, Upgrades, not_conflicting}
-use Rattle.machine_types.specs.Permission.{left_by}
-use Rattle.machine_types.specs.declared.line.LineData.{LineData}
-use Rattle.machine_types.specs.declared.message.Body.{Body}
-use Rattle.machine_types.specs.declared.message.Body.TheVariants.{ProbeAck, ProbeAckData, ReleaseData, Grant, GrantData}
-use Rattle.machine_types.specs.declared.permission.Grow.{Grow}
-use Rattle.machine_types.specs.declared.permission.Perm.{Perm}
-use Rattle.machine_types.specs.declared.permission.Perm.TheVariants.{Trunk}
+use Rattle.tl_types.specs.Permission.{left_by}
+use Rattle.tl_types.specs.declared.line.LineData.{LineData}
+use Rattle.tl_types.specs.declared.message.Body.{Body}
+use Rattle.tl_types.specs.declared.message.Body.TheVariants.{ProbeAck, ProbeAckData, ReleaseData, Grant, GrantData}
+use Rattle.tl_types.specs.declared.permission.Grow.{Grow}
+use Rattle.tl_types.specs.declared.permission.Perm.{Perm}
+use Rattle.tl_types.specs.declared.permission.Perm.TheVariants.{Trunk}
 
 -- an answer leaves no Trunk, and its data are what was written last
 abbrev pub IsAnswering : LineData → List Body → Type 0

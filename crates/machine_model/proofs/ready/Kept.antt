@@ -40,14 +40,14 @@ use Rattle.machine_model.proofs.coherence.WorldOpening.{opening_is_fit, opening_
 use Rattle.machine_model.proofs.coherence.WorldSteps.{last_after, last_by, wrote_word}
 use Rattle.store_buffer.specs.Entry.{entry_of}
 use Rattle.store_buffer.specs.Groups.{oldest}
-use Rattle.machine_types.specs.Line.{length_of, line_of, size_of}
-use Rattle.machine_types.specs.declared.line.LineData.{LineData}
-use Rattle.machine_types.specs.declared.line.LineData.TheVariants as data_of
-use Rattle.machine_types.specs.declared.line.LineSize.{LineSize}
-use Rattle.machine_types.specs.declared.line.LineSize.TheVariants.{Bytes16, Bytes64}
-use Rattle.machine_types.specs.declared.message.Body.{Body}
-use Rattle.machine_types.specs.declared.message.Body.TheVariants.{ProbeAckData, ReleaseData}
-use Rattle.hart.specs.History.{entries_of}
+use Rattle.tl_types.specs.Line.{length_of, line_of, size_of}
+use Rattle.tl_types.specs.declared.line.LineData.{LineData}
+use Rattle.tl_types.specs.declared.line.LineData.TheVariants as data_of
+use Rattle.tl_types.specs.declared.line.LineSize.{LineSize}
+use Rattle.tl_types.specs.declared.line.LineSize.TheVariants.{Bytes16, Bytes64}
+use Rattle.tl_types.specs.declared.message.Body.{Body}
+use Rattle.tl_types.specs.declared.message.Body.TheVariants.{ProbeAckData, ReleaseData}
+use Rattle.trace_recorder.specs.History.{entries_of}
 use Rattle.machine_model.proofs.Events.{IsMove, IsUnlimited, by_event, move_is, unlimited}
 
 pub record IsSized (s : State) : Type 0 where

@@ -16,7 +16,7 @@ use Rattle.machine_model.specs.Views.{State, node_at}
 use Rattle.machine_model.specs.declared.act.Act.{Act}
 use Rattle.machine_model.specs.declared.act.Act.TheVariants as act
 use Rattle.machine_model.proofs.Nodes.{delivered_keeps, does_keeps, drained_keeps, given_up_keeps, missed_keeps}
-use Rattle.hart.specs.History.{History, with_entry}
+use Rattle.trace_recorder.specs.History.{History, with_entry}
 
 -- at most n more at one place, and none elsewhere
 pub record IsLonger (h n : ℕ) (old new : List (List Retired)) : Type 0 where

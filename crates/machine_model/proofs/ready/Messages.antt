@@ -16,14 +16,14 @@ use Rattle.machine_model.proofs.ready.Heads.{IsAnswering, IsGranted, answering, 
 use Rattle.machine_model.proofs.coherence.WorldFits.{IsFit, kit_of}
 use Rattle.machine_model.proofs.coherence.WorldKept.{side}
 use Rattle.tilelink_channels.specs.Queues.{front_of, queue_of}
-use Rattle.machine_types.specs.Line.{length_of, size_of}
-use Rattle.machine_types.specs.Message.{channel_of_body}
-use Rattle.machine_types.specs.declared.line.LineData.{LineData}
-use Rattle.machine_types.specs.declared.message.Body.{Body}
-use Rattle.machine_types.specs.declared.message.Body.TheVariants.{AcquireBlock, ProbeBlock, ProbeAck, ProbeAckData, Release, ReleaseData, Grant, GrantData, ReleaseAck, GrantAck}
-use Rattle.machine_types.specs.declared.message.Channel.{Channel}
-use Rattle.machine_types.specs.declared.message.Channel.TheVariants.{A, B, C, D, E}
-use Rattle.machine_types.specs.declared.message.Msg.{Msg}
+use Rattle.tl_types.specs.Line.{length_of, size_of}
+use Rattle.tl_types.specs.Message.{channel_of_body}
+use Rattle.tl_types.specs.declared.line.LineData.{LineData}
+use Rattle.tl_types.specs.declared.message.Body.{Body}
+use Rattle.tl_types.specs.declared.message.Body.TheVariants.{AcquireBlock, ProbeBlock, ProbeAck, ProbeAckData, Release, ReleaseData, Grant, GrantData, ReleaseAck, GrantAck}
+use Rattle.tl_types.specs.declared.message.Channel.{Channel}
+use Rattle.tl_types.specs.declared.message.Channel.TheVariants.{A, B, C, D, E}
+use Rattle.tl_types.specs.declared.message.Msg.{Msg}
 
 -- a queue with a message of a line isn't empty to the line
 some_of_line : (q : List Msg) (m : Msg) (k : ℕ) → k < length q → slice_index_or q k m ≡ m → of_line m.line q ≡ [] → ⊥

@@ -22,8 +22,8 @@ use Rattle.machine_model.proofs.room.Pigeons.{one, times, sizes}
 use Rattle.machine_model.proofs.room.Sizes.{AllSmall}
 use Rattle.machine_model.proofs.coherence.WorldFits.{IsFit, kit_at}
 use Rattle.machine_model.proofs.coherence.WorldKept.{is_line, side}
-use Rattle.machine_types.specs.declared.line.LineData.{LineData}
-use Rattle.machine_types.specs.declared.permission.Grow.{Grow}
+use Rattle.tl_types.specs.declared.line.LineData.{LineData}
+use Rattle.tl_types.specs.declared.permission.Grow.{Grow}
 
 -- ---- one side
 

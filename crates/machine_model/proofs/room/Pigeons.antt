@@ -11,7 +11,7 @@ use mathlib.Core.Logic.{◌⊎◌, inl, inr}
 use native.Mathlib.Omega.{arith}
 use Rattle.client_cache.proofs.AtLines.{remove_other}
 use Rattle.machine_model.proofs.coherence.LineViews.{of_line}
-use Rattle.machine_types.specs.declared.message.Msg.{Msg}
+use Rattle.tl_types.specs.declared.message.Msg.{Msg}
 
 abbrev pub one : Bool → ℕ
 one true = 1

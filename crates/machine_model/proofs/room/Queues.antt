@@ -17,8 +17,8 @@ use Rattle.machine_model.proofs.coherence.WorldEvents.{after_events_fit}
 use Rattle.machine_model.proofs.coherence.WorldOpening.{opening_fits}
 use Rattle.machine_model.proofs.coherence.WorldSteps.{Fits}
 use Rattle.tilelink_channels.specs.Queues.{none_waiting, queue_of, room_of}
-use Rattle.machine_types.specs.declared.message.Channel.{Channel}
-use Rattle.machine_types.specs.declared.message.Channel.TheVariants.{A, B, C, D, E}
+use Rattle.tl_types.specs.declared.message.Channel.{Channel}
+use Rattle.tl_types.specs.declared.message.Channel.TheVariants.{A, B, C, D, E}
 
 none_fit : (channel : Channel) → length (queue_of none_waiting channel) ≤ room_of channel
 none_fit A = omega arith

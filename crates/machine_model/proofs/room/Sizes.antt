@@ -28,17 +28,17 @@ use Rattle.machine_types.specs.declared.config.Config.{Config}
 use Rattle.machine_model.proofs.Nodes.{node_same}
 use Rattle.machine_model.proofs.coherence.WorldFits.{framed_taken}
 use Rattle.tilelink_channels.specs.Queues.{Waiting, behind, popped, pushed, queue_of, with_queue}
-use Rattle.machine_types.specs.Line.{line_of}
-use Rattle.machine_types.specs.Message.{channel_of, channel_of_body}
-use Rattle.machine_types.specs.declared.line.LineData.{LineData}
-use Rattle.machine_types.specs.declared.message.Body.{Body}
-use Rattle.machine_types.specs.declared.message.Body.TheVariants.{AcquireBlock, ProbeBlock, ProbeAck, ProbeAckData, Release, ReleaseData, Grant, GrantData, ReleaseAck, GrantAck}
-use Rattle.machine_types.specs.declared.message.Channel.{Channel}
-use Rattle.machine_types.specs.declared.message.Channel.TheVariants.{A, B, C, D, E}
-use Rattle.machine_types.specs.declared.message.Msg.{Msg}
-use Rattle.machine_types.specs.declared.permission.Cap.{Cap}
-use Rattle.machine_types.specs.declared.permission.Change.{Change}
-use Rattle.machine_types.specs.declared.permission.Grow.{Grow}
+use Rattle.tl_types.specs.Line.{line_of}
+use Rattle.tl_types.specs.Message.{channel_of, channel_of_body}
+use Rattle.tl_types.specs.declared.line.LineData.{LineData}
+use Rattle.tl_types.specs.declared.message.Body.{Body}
+use Rattle.tl_types.specs.declared.message.Body.TheVariants.{AcquireBlock, ProbeBlock, ProbeAck, ProbeAckData, Release, ReleaseData, Grant, GrantData, ReleaseAck, GrantAck}
+use Rattle.tl_types.specs.declared.message.Channel.{Channel}
+use Rattle.tl_types.specs.declared.message.Channel.TheVariants.{A, B, C, D, E}
+use Rattle.tl_types.specs.declared.message.Msg.{Msg}
+use Rattle.tl_types.specs.declared.permission.Cap.{Cap}
+use Rattle.tl_types.specs.declared.permission.Change.{Change}
+use Rattle.tl_types.specs.declared.permission.Grow.{Grow}
 use Rattle.machine_model.proofs.CacheCalls.{by_evicted, by_probed, by_wanted}
 use Rattle.machine_model.proofs.Parts.{KeptByDeeds, by_answered, by_left, by_granted, by_handled, does_by, drained_by}
 

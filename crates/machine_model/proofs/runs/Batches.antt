@@ -29,7 +29,7 @@ use Rattle.machine_types.specs.declared.model.MemoryModel.{MemoryModel}
 use Rattle.rv32_decode.specs.Rows.{decoded}
 use Rattle.rv32_decode.specs.declared.instruction.Instr.{Instr}
 use Rattle.rv32_exec.specs.Meaning.{Private, access_of, stop_of}
-use Rattle.hart.specs.History.{with_entry}
+use Rattle.trace_recorder.specs.History.{with_entry}
 use Rattle.machine_model.specs.declared.act.Act.{Act}
 use Rattle.machine_model.proofs.Events.{HasMoved, IsMove, after_act, has_moved, unlimited}
 

@@ -31,7 +31,7 @@ use Rattle.memory_model.specs.Traces.{are_runs, are_runs_from}
 use Rattle.rv32_decode.specs.Rows.{decoded}
 use Rattle.rv32_decode.specs.declared.instruction.Instr.{Instr}
 use Rattle.rv32_exec.specs.Meaning.{Access, Private, Loads, Stores, DoesLr, DoesSc, DoesAmo, Fences, Calls, access_of}
-use Rattle.hart.specs.History.{History, entries_of, with_entry}
+use Rattle.trace_recorder.specs.History.{History, entries_of, with_entry}
 
 -- ---- one hart
 

@@ -11,7 +11,7 @@ ghost use Rattle.machine_parts.specs.Handled.{installed, shrunk};
 use super::messages::send;
 use crate::parts::Parts;
 use client_cache::Probed;
-use machine_types::{Body, Cap, Change, LineData, Msg};
+use tl_types::{Body, Cap, Change, LineData, Msg};
 
 /// A ReleaseAck answers the line's Release.
 pub(crate) fn on_release_ack(parts: &mut Parts, hart: u8, line: u32)

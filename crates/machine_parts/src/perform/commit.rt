@@ -8,14 +8,15 @@ ghost use Rattle.machine_model.specs.Events.{verdict};
 ghost use Rattle.machine_model.specs.Ready.{IsSound};
 ghost use Rattle.machine_model.specs.Views.{node_at};
 ghost use Rattle.machine_parts.specs.Applying.{Answers};
-ghost use Rattle.hart.specs.History.{entries_of};
+ghost use Rattle.trace_recorder.specs.History.{entries_of};
 
 use crate::errors::ApplyError;
 use crate::limits::{is_limited, reserve};
 use crate::parts::Parts;
-use hart::{Batch, Retired, Trace};
+use hart::{Batch, Retired};
 use machine_model::Act;
 use machine_types::{Event, Outcome};
+use trace_recorder::Trace;
 
 impl Parts {
     /// Commits the private instructions that a hart has run by itself from where it stands: its list goes

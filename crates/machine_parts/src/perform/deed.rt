@@ -11,11 +11,11 @@ ghost use Rattle.store_buffer.specs.ByteMask.{marks_of_access};
 ghost use Rattle.store_buffer.specs.Groups.{after_seal, fits};
 
 use crate::parts::Parts;
-use hart::OpId;
 use machine_model::Deed;
 use machine_types::MemoryModel;
 use std::alloc::AllocError;
 use store_buffer::{PutError, Store, StoreBuffer};
+use trace_recorder::OpId;
 
 /// What an instruction does as it retires. An error leaves everything as it was.
 pub(crate) fn carry_out(parts: &mut Parts, hart: u8, deed: &Deed) -> Result<(), AllocError>

@@ -13,7 +13,7 @@ use super::client::{on_grant, on_probe, on_release_ack};
 use super::manager::{on_acquire, on_grant_ack, on_probe_ack, on_release};
 use super::messages::take;
 use crate::parts::Parts;
-use machine_types::{Body, Msg};
+use tl_types::{Body, Msg};
 
 /// What the manager or the cache does with a message that it has taken.
 fn handle(parts: &mut Parts, hart: u8, message: &Msg)

@@ -13,8 +13,8 @@ ghost use Rattle.machine_parts.specs.Needs.{HasNeeded, needs_of};
 use super::messages::send;
 use crate::parts::Parts;
 use client_cache::Evict;
-use machine_types::{Body, Change, LineData, LineSize, Msg};
 use node_plans::Node;
+use tl_types::{Body, Change, LineData, LineSize, Msg};
 
 /// The cache gives a line up, and a Release goes out.
 pub(crate) fn give_up(parts: &mut Parts, hart: u8, line: u32)

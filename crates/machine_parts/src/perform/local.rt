@@ -8,10 +8,11 @@ ghost use Rattle.machine_model.specs.declared.act.Act.TheVariants as act;
 ghost use Rattle.machine_model.specs.Changing.{next_place, went_alone, with_entries};
 ghost use Rattle.machine_model.specs.Ready.{IsSound};
 ghost use Rattle.machine_parts.specs.Needs.{HasNeeded, needs_of};
-ghost use Rattle.hart.specs.History.{entries_of};
+ghost use Rattle.trace_recorder.specs.History.{entries_of};
 
 use crate::parts::Parts;
-use hart::{Hart, Trace, next_alone};
+use hart::{Hart, next_alone};
+use trace_recorder::Trace;
 
 /// So many private instructions retire, or as many as there are.
 pub(crate) fn go_alone(parts: &mut Parts, hart: u8, count: u32)

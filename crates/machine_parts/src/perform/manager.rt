@@ -8,15 +8,15 @@ ghost use Rattle.machine_model.specs.Deliveries.{grant_body, line_in_memory, on_
 ghost use Rattle.machine_model.specs.Laws.{QueuesFit};
 ghost use Rattle.machine_model.specs.Views.{line_size, place_of};
 ghost use Rattle.machine_parts.specs.Handled.{HasLine, HasSize, count_of, written_back};
-ghost use Rattle.machine_types.specs.Line.{size_of};
-ghost use Rattle.machine_types.specs.Permission.{left_by};
+ghost use Rattle.tl_types.specs.Line.{size_of};
+ghost use Rattle.tl_types.specs.Permission.{left_by};
 
 use super::messages::send;
 use crate::parts::Parts;
 use backing_memory::Memory;
 use directory::{Acquired, Grant, HartSet, Sent};
-use machine_types::{Body, Cap, Change, Grow, LineData, Msg, Perm};
 use node_plans::place_of;
+use tl_types::{Body, Cap, Change, Grow, LineData, Msg, Perm};
 
 /// Data that came with a message go to memory.
 fn write_back(memory: &mut Memory, place: u32, bytes: Option<LineData>)

@@ -4,10 +4,10 @@ ghost use Rattle.std.specs.Prelude.{◌≡◌, ◌-◌, ◌<◌, length};
 ghost use Rattle.machine_model.specs.Deliveries.{taken};
 ghost use Rattle.machine_model.specs.Views.{node_at, sent};
 ghost use Rattle.tilelink_channels.specs.Queues.{queue_of, room_of};
-ghost use Rattle.machine_types.specs.Message.{channel_of};
+ghost use Rattle.tl_types.specs.Message.{channel_of};
 
 use crate::parts::Parts;
-use machine_types::Msg;
+use tl_types::Msg;
 
 /// Sends a message to a hart's cache, or from it to the manager.
 pub(crate) fn send(parts: &mut Parts, hart: u8, message: &Msg)

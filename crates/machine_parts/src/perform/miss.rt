@@ -11,7 +11,7 @@ ghost use Rattle.machine_parts.specs.Needs.{HasNeeded, needs_of};
 
 use super::messages::send;
 use crate::parts::Parts;
-use machine_types::{Body, Grow, Msg};
+use tl_types::{Body, Grow, Msg};
 
 /// An Acquire takes a tracker and a slot, and goes out.
 pub(crate) fn miss(parts: &mut Parts, hart: u8, line: u32, grow: Grow)

@@ -6,14 +6,15 @@ ghost use Rattle.machine_model.specs.declared.act.Act.TheVariants as act;
 ghost use Rattle.machine_model.specs.Changing.{does, next_place, retired, stopped, with_halt};
 ghost use Rattle.machine_model.specs.Ready.{IsReadyDeed, IsSound};
 ghost use Rattle.machine_parts.specs.Needs.{HasNeeded, needs_of};
-ghost use Rattle.hart.specs.History.{entries_of};
+ghost use Rattle.trace_recorder.specs.History.{entries_of};
 
 use super::deed::carry_out;
 use crate::parts::Parts;
-use hart::{Retired, Status, Trace};
+use hart::{Retired, Status};
 use machine_model::Deed;
 use rv32_decode::Instr;
 use std::alloc::AllocError;
+use trace_recorder::Trace;
 
 /// The instruction retires with its entry, and does its deed. An error leaves everything as it was.
 pub(crate) fn retire(

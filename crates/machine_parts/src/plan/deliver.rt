@@ -9,15 +9,16 @@ ghost use Rattle.machine_model.specs.Ready.{IsSound};
 ghost use Rattle.machine_model.specs.Views.{line_size, node_at, place_of};
 ghost use Rattle.machine_parts.specs.Deciding.{unless_stalled};
 ghost use Rattle.tilelink_channels.specs.Queues.{front_of, queue_of};
-ghost use Rattle.machine_types.specs.declared.permission.Cap.{Cap as AnyCap};
-ghost use Rattle.machine_types.specs.declared.permission.Grow.{Grow as AnyGrow};
+ghost use Rattle.tl_types.specs.declared.permission.Cap.{Cap as AnyCap};
+ghost use Rattle.tl_types.specs.declared.permission.Grow.{Grow as AnyGrow};
 
 use crate::parts::Parts;
 use client_cache::ClientCache;
 use directory::{Directory, Transaction};
 use machine_model::{Act, Plan};
-use machine_types::{Body, Channel, Msg, Outcome};
+use machine_types::Outcome;
 use node_plans::{Node, place_of};
+use tl_types::{Body, Channel, Msg};
 
 /// An Acquire waits while its line has a transaction.
 fn stalled_acquire(directory: &Directory, place: u32) -> Option<Outcome>

@@ -9,8 +9,8 @@ use Rattle.rvwmo_order.specs.declared.error.CheckError.{CheckError}
 use Rattle.rvwmo_order.specs.declared.error.CheckError.TheVariants.{NoMemory, NotARun, TooLong}
 use Rattle.rvwmo_order.specs.declared.verdict.Verdict.{Verdict}
 use Rattle.rvwmo_order.specs.declared.verdict.Verdict.TheVariants.{Legal}
-use Rattle.hart.specs.History.{History}
-use Rattle.hart.specs.declared.operation.OpId.{OpId}
+use Rattle.trace_recorder.specs.History.{History}
+use Rattle.trace_recorder.specs.declared.operation.OpId.{OpId}
 use Rattle.check_command.proofs.checking.judged.Goals as goal
 
 some_refusal : (runs many : Bool) (rest : Option CheckError) → many ≡ true → None ≡ (if runs then (if many then Some TooLong else rest) else Some NotARun) → ⊥

@@ -3,8 +3,8 @@ use Rattle.std.specs.List.{flat_map}
 use Rattle.std.specs.Prelude.{slice_get}
 use Rattle.text_fields.proofs.Pages.{item_none, page_as, page_ends, page_fails, page_more, page_spelled, page_stops}
 use Rattle.tilelink_channels.specs.Queues.{queue_of}
-use Rattle.machine_types.specs.declared.message.Channel.{Channel}
-use Rattle.machine_types.specs.declared.message.Msg.{Msg}
+use Rattle.tl_types.specs.declared.message.Channel.{Channel}
+use Rattle.tl_types.specs.declared.message.Msg.{Msg}
 use Rattle.event_stream.specs.Holding.{message_if, message_line}
 use Rattle.event_stream.proofs.Counting.{item_if, placed_next}
 use Rattle.event_stream.proofs.holding.put_queue.Goals as goal

@@ -1,7 +1,7 @@
 use Rattle.std.proofs.Common.{◌≡◌, ℕ, List, [], ◌∷◌, ◌++◌, append_assoc}
 use Rattle.std.specs.Prelude.{codes}
 use Rattle.text_fields.specs.Fields.{hex, word}
-use Rattle.machine_types.specs.Line.{bytes_of}
+use Rattle.tl_types.specs.Line.{bytes_of}
 use Rattle.event_stream.proofs.state.spell_data.Goals as goal
 
 grouped : (p d w h : List ℕ) (e f : ℕ) → ((((p ++ d) ++ w) ++ e ∷ []) ++ h) ++ f ∷ [] ≡ p ++ (d ++ (w ++ (e ∷ (h ++ f ∷ []))))

@@ -2,9 +2,9 @@ use Rattle.std.proofs.Common.{◌≡◌, ℕ, ◌/◌, ◌++◌, List, ◌∙◌
 use Rattle.elf_loader.specs.Image.{Initial}
 use Rattle.elf_loader.specs.Size.{base}
 use Rattle.text_fields.specs.Pages.{Spells}
-use Rattle.machine_types.specs.Line.{length_of}
-use Rattle.machine_types.specs.declared.line.LineSize.{LineSize}
-use Rattle.hart.specs.History.{History}
+use Rattle.tl_types.specs.Line.{length_of}
+use Rattle.tl_types.specs.declared.line.LineSize.{LineSize}
+use Rattle.trace_recorder.specs.History.{History}
 use Rattle.trace_text.specs.Traces.{image, image_lines}
 use Rattle.event_stream.specs.Streams.{head}
 use Rattle.event_stream.proofs.Paging.{spells_behind}

@@ -1,7 +1,7 @@
 use Rattle.std.proofs.Common.{◌≡◌, ℕ, List, [], ◌∷◌, ◌++◌, append_assoc, sym, ◌∙◌, true, false}
 use Rattle.std.specs.Prelude.{codes}
 use Rattle.text_fields.specs.Fields.{number, word}
-use Rattle.machine_types.specs.Line.{length_of}
+use Rattle.tl_types.specs.Line.{length_of}
 use Rattle.trace_text.specs.Scripts.{is_first_version}
 use Rattle.event_stream.proofs.writing.spell_head.Goals as goal
 

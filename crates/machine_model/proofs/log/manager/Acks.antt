@@ -31,14 +31,14 @@ use Rattle.machine_model.proofs.log.manager.Sums.{settled_by_all}
 use Rattle.machine_model.proofs.coherence.WorldFits.{kit_at}
 use Rattle.machine_model.proofs.coherence.WorldKept.{front_line}
 use Rattle.machine_model.proofs.coherence.WorldManager.{none_awaited}
-use Rattle.machine_types.specs.declared.line.LineData.{LineData}
-use Rattle.machine_types.specs.declared.message.Body.{Body}
-use Rattle.machine_types.specs.declared.message.Body.TheVariants.{ProbeAck, ProbeAckData}
-use Rattle.machine_types.specs.declared.message.Msg.{Msg}
-use Rattle.machine_types.specs.declared.permission.Change.{Change}
-use Rattle.machine_types.specs.declared.permission.Grow.{Grow}
-use Rattle.hart.specs.History.{History}
-use Rattle.hart.specs.declared.logged.Logged.{Logged}
+use Rattle.tl_types.specs.declared.line.LineData.{LineData}
+use Rattle.tl_types.specs.declared.message.Body.{Body}
+use Rattle.tl_types.specs.declared.message.Body.TheVariants.{ProbeAck, ProbeAckData}
+use Rattle.tl_types.specs.declared.message.Msg.{Msg}
+use Rattle.tl_types.specs.declared.permission.Change.{Change}
+use Rattle.tl_types.specs.declared.permission.Grow.{Grow}
+use Rattle.trace_recorder.specs.History.{History}
+use Rattle.trace_recorder.specs.declared.logged.Logged.{Logged}
 
 -- a ProbeAck, with data or without
 abbrev IsAnswer : Body → Type 0

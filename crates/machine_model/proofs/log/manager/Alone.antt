@@ -22,8 +22,8 @@ use Rattle.machine_model.proofs.log.Acts.{IsAlone}
 use Rattle.machine_types.specs.declared.model.MemoryModel.{MemoryModel}
 use Rattle.store_buffer.specs.Entry.{entry_of}
 use Rattle.store_buffer.specs.Groups.{oldest}
-use Rattle.machine_types.specs.Line.{line_of}
-use Rattle.hart.specs.History.{History, with_performed}
+use Rattle.tl_types.specs.Line.{line_of}
+use Rattle.trace_recorder.specs.History.{History, with_performed}
 use Rattle.machine_model.proofs.Parts.{KeptByDeeds, does_by, drained_by}
 
 -- ---- notes

@@ -32,11 +32,11 @@ use Rattle.machine_model.proofs.Plans.{IsReady}
 use Rattle.machine_model.proofs.order.Events.{opening_stand}
 use Rattle.machine_model.proofs.runs.Runs.{happens_stand}
 use Rattle.machine_model.proofs.coherence.WorldOpening.{opening_fits, same_everywhere}
-use Rattle.machine_types.specs.Line.{length_of}
-use Rattle.machine_types.specs.declared.message.Body.{Body}
-use Rattle.machine_types.specs.declared.message.Body.TheVariants.{AcquireBlock, ProbeBlock, ProbeAck, ProbeAckData, Release, ReleaseData, Grant, GrantData, ReleaseAck, GrantAck}
-use Rattle.machine_types.specs.declared.message.Msg.{Msg}
-use Rattle.hart.specs.declared.logged.Logged.{Logged}
+use Rattle.tl_types.specs.Line.{length_of}
+use Rattle.tl_types.specs.declared.message.Body.{Body}
+use Rattle.tl_types.specs.declared.message.Body.TheVariants.{AcquireBlock, ProbeBlock, ProbeAck, ProbeAckData, Release, ReleaseData, Grant, GrantData, ReleaseAck, GrantAck}
+use Rattle.tl_types.specs.declared.message.Msg.{Msg}
+use Rattle.trace_recorder.specs.declared.logged.Logged.{Logged}
 
 module _ (s : State) (p : IsPlain s) (h : ℕ) (in_h : h < length s.views.nodes) (i : IsGoverned s) where
   in_c : h < s.views.config.harts

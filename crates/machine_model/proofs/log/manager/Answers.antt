@@ -22,13 +22,13 @@ use Rattle.machine_model.proofs.log.Counts.{bit, sent_in, sent_out, taken_in, ta
 use Rattle.machine_model.proofs.log.Flags.{no_bit}
 use Rattle.machine_model.proofs.log.Lists.{comes_out, goes_in}
 use Rattle.machine_model.proofs.Plans.{IsReady, Rests}
-use Rattle.machine_types.specs.declared.line.LineData.{LineData}
-use Rattle.machine_types.specs.declared.message.Body.{Body}
-use Rattle.machine_types.specs.declared.message.Body.TheVariants.{AcquireBlock, ProbeBlock, ProbeAck, ProbeAckData, Release, ReleaseData, Grant, GrantData, ReleaseAck, GrantAck}
-use Rattle.machine_types.specs.declared.message.Msg.{Msg}
-use Rattle.machine_types.specs.declared.permission.Cap.{Cap}
-use Rattle.machine_types.specs.declared.permission.Change.{Change}
-use Rattle.hart.specs.declared.logged.Logged.{Logged}
+use Rattle.tl_types.specs.declared.line.LineData.{LineData}
+use Rattle.tl_types.specs.declared.message.Body.{Body}
+use Rattle.tl_types.specs.declared.message.Body.TheVariants.{AcquireBlock, ProbeBlock, ProbeAck, ProbeAckData, Release, ReleaseData, Grant, GrantData, ReleaseAck, GrantAck}
+use Rattle.tl_types.specs.declared.message.Msg.{Msg}
+use Rattle.tl_types.specs.declared.permission.Cap.{Cap}
+use Rattle.tl_types.specs.declared.permission.Change.{Change}
+use Rattle.trace_recorder.specs.declared.logged.Logged.{Logged}
 use Rattle.machine_model.proofs.Parts.{by_left}
 
 -- ---- a question that is taken, and its answer behind it

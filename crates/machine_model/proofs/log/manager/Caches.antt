@@ -50,19 +50,19 @@ use Rattle.machine_model.proofs.coherence.WorldFits.{Framed, framed_again, frame
 use Rattle.machine_model.proofs.coherence.WorldKept.{front_line, is_line, side}
 use Rattle.machine_model.proofs.coherence.WorldSteps.{trunk_line}
 use Rattle.tilelink_channels.specs.Queues.{popped, pushed}
-use Rattle.machine_types.specs.Message.{channel_of_body}
-use Rattle.machine_types.specs.Shrink.{shrunk_by}
-use Rattle.machine_types.specs.declared.line.LineData.{LineData}
-use Rattle.machine_types.specs.declared.message.Body.{Body}
-use Rattle.machine_types.specs.declared.message.Body.TheVariants.{AcquireBlock, ProbeBlock, ProbeAck, ProbeAckData, Release, ReleaseData, Grant, GrantData, ReleaseAck, GrantAck}
-use Rattle.machine_types.specs.declared.message.Msg.{Msg}
-use Rattle.machine_types.specs.declared.permission.Cap.{Cap}
-use Rattle.machine_types.specs.declared.permission.Cap.TheVariants.{ToT, ToB, ToN}
-use Rattle.machine_types.specs.declared.permission.Change.{Change}
-use Rattle.machine_types.specs.declared.permission.Grow.{Grow}
-use Rattle.machine_types.specs.declared.permission.Grow.TheVariants.{BtoT}
-use Rattle.machine_types.specs.declared.permission.Perm.TheVariants.{Nothing, Branch}
-use Rattle.hart.specs.declared.logged.Logged.{Logged}
+use Rattle.tl_types.specs.Message.{channel_of_body}
+use Rattle.tl_types.specs.Shrink.{shrunk_by}
+use Rattle.tl_types.specs.declared.line.LineData.{LineData}
+use Rattle.tl_types.specs.declared.message.Body.{Body}
+use Rattle.tl_types.specs.declared.message.Body.TheVariants.{AcquireBlock, ProbeBlock, ProbeAck, ProbeAckData, Release, ReleaseData, Grant, GrantData, ReleaseAck, GrantAck}
+use Rattle.tl_types.specs.declared.message.Msg.{Msg}
+use Rattle.tl_types.specs.declared.permission.Cap.{Cap}
+use Rattle.tl_types.specs.declared.permission.Cap.TheVariants.{ToT, ToB, ToN}
+use Rattle.tl_types.specs.declared.permission.Change.{Change}
+use Rattle.tl_types.specs.declared.permission.Grow.{Grow}
+use Rattle.tl_types.specs.declared.permission.Grow.TheVariants.{BtoT}
+use Rattle.tl_types.specs.declared.permission.Perm.TheVariants.{Nothing, Branch}
+use Rattle.trace_recorder.specs.declared.logged.Logged.{Logged}
 
 -- what a Probe takes of a copy that isn't written
 shrinks : (copy : Option Held) (cap : Cap) → is_trunk (perm_of copy) ≡ false →

@@ -16,15 +16,15 @@ use Rattle.machine_model.proofs.log.manager.Losses.{IsLosing, less_not, losses}
 use Rattle.machine_model.proofs.log.manager.Queues.{count_in}
 use Rattle.machine_model.proofs.log.manager.Readings.{heard_next, last_asked, last_heard, last_of, reading}
 use Rattle.machine_model.proofs.log.Queues.{IsInOrder}
-use Rattle.machine_types.specs.Permission.{granted_for}
-use Rattle.machine_types.specs.declared.line.LineData.{LineData}
-use Rattle.machine_types.specs.declared.message.Body.TheVariants.{AcquireBlock, Grant, GrantData}
-use Rattle.machine_types.specs.declared.message.Channel.TheVariants.{A}
-use Rattle.machine_types.specs.declared.message.Msg.{Msg}
-use Rattle.machine_types.specs.declared.permission.Grow.{Grow}
-use Rattle.machine_types.specs.declared.permission.Grow.TheVariants.{NtoB, NtoT, BtoT}
-use Rattle.machine_types.specs.declared.permission.Perm.{Perm}
-use Rattle.hart.specs.declared.logged.Logged.{Logged}
+use Rattle.tl_types.specs.Permission.{granted_for}
+use Rattle.tl_types.specs.declared.line.LineData.{LineData}
+use Rattle.tl_types.specs.declared.message.Body.TheVariants.{AcquireBlock, Grant, GrantData}
+use Rattle.tl_types.specs.declared.message.Channel.TheVariants.{A}
+use Rattle.tl_types.specs.declared.message.Msg.{Msg}
+use Rattle.tl_types.specs.declared.permission.Grow.{Grow}
+use Rattle.tl_types.specs.declared.permission.Grow.TheVariants.{NtoB, NtoT, BtoT}
+use Rattle.tl_types.specs.declared.permission.Perm.{Perm}
+use Rattle.trace_recorder.specs.declared.logged.Logged.{Logged}
 
 gives : (grow : Grow) → is_for grow (granted_for grow) ≡ true
 gives NtoB = refl

@@ -29,18 +29,18 @@ use Rattle.machine_model.proofs.log.manager.Alone.{alone_notes}
 use Rattle.machine_model.proofs.log.manager.Numbers.{IsLine, noted}
 use Rattle.machine_model.proofs.log.manager.Readings.{and_off, heard_in, heard_out, is_at, last_heard}
 use Rattle.machine_model.proofs.log.manager.Sums.{AreBelow, below_more}
-use Rattle.machine_types.specs.Line.{length_of}
-use Rattle.machine_types.specs.declared.line.LineData.{LineData}
-use Rattle.machine_types.specs.declared.message.Body.{Body}
-use Rattle.machine_types.specs.declared.message.Body.TheVariants.{AcquireBlock, ProbeAck, ProbeAckData, Release, ReleaseData, ReleaseAck, GrantAck}
-use Rattle.machine_types.specs.declared.message.Msg.{Msg}
-use Rattle.machine_types.specs.declared.permission.Cap.{Cap}
-use Rattle.machine_types.specs.declared.permission.Grow.{Grow}
-use Rattle.hart.specs.declared.logged.Logged.{Logged}
+use Rattle.tl_types.specs.Line.{length_of}
+use Rattle.tl_types.specs.declared.line.LineData.{LineData}
+use Rattle.tl_types.specs.declared.message.Body.{Body}
+use Rattle.tl_types.specs.declared.message.Body.TheVariants.{AcquireBlock, ProbeAck, ProbeAckData, Release, ReleaseData, ReleaseAck, GrantAck}
+use Rattle.tl_types.specs.declared.message.Msg.{Msg}
+use Rattle.tl_types.specs.declared.permission.Cap.{Cap}
+use Rattle.tl_types.specs.declared.permission.Grow.{Grow}
+use Rattle.trace_recorder.specs.declared.logged.Logged.{Logged}
 use Rattle.machine_model.proofs.Parts.{by_answered, by_left}
 use Rattle.machine_model.specs.Changing.{release_body}
 use Rattle.machine_model.specs.Deliveries.{probe_ack_body}
-use Rattle.machine_types.specs.declared.permission.Change.{Change}
+use Rattle.tl_types.specs.declared.permission.Change.{Change}
 
 -- a Probe or a Grant is sent where it may be
 abbrev pub Governed : ℕ → Msg → List Logged → Type 0

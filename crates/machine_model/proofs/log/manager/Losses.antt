@@ -23,13 +23,13 @@ use Rattle.machine_model.proofs.log.Fronts.{IsFront}
 use Rattle.machine_model.proofs.log.Queues.{IsInOrder}
 use Rattle.machine_model.proofs.coherence.WorldFits.{Framed}
 use Rattle.tilelink_channels.specs.Queues.{queue_of}
-use Rattle.machine_types.specs.Message.{channel_of_body}
-use Rattle.machine_types.specs.declared.message.Body.{Body}
-use Rattle.machine_types.specs.declared.message.Body.TheVariants.{AcquireBlock, ProbeBlock, ProbeAck, ProbeAckData, Grant, GrantData}
-use Rattle.machine_types.specs.declared.message.Channel.TheVariants.{C}
-use Rattle.machine_types.specs.declared.message.Msg.{Msg}
-use Rattle.machine_types.specs.declared.permission.Grow.TheVariants.{BtoT}
-use Rattle.hart.specs.declared.logged.Logged.{Logged}
+use Rattle.tl_types.specs.Message.{channel_of_body}
+use Rattle.tl_types.specs.declared.message.Body.{Body}
+use Rattle.tl_types.specs.declared.message.Body.TheVariants.{AcquireBlock, ProbeBlock, ProbeAck, ProbeAckData, Grant, GrantData}
+use Rattle.tl_types.specs.declared.message.Channel.TheVariants.{C}
+use Rattle.tl_types.specs.declared.message.Msg.{Msg}
+use Rattle.tl_types.specs.declared.permission.Grow.TheVariants.{BtoT}
+use Rattle.trace_recorder.specs.declared.logged.Logged.{Logged}
 
 -- what the hart needs for its BtoT is what the log says that it lost
 abbrev pub Lost : ℕ → ℕ → AtLine → List Logged → Type 0

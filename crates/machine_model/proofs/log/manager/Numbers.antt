@@ -17,9 +17,9 @@ use Rattle.machine_model.proofs.log.Sends.{Known}
 use Rattle.machine_model.proofs.runs.Runs.{AllStand}
 use Rattle.machine_model.proofs.coherence.WorldFits.{kit_of}
 use Rattle.machine_model.proofs.coherence.WorldKept.{is_line, side}
-use Rattle.machine_types.specs.declared.message.Body.TheVariants.{AcquireBlock, ProbeBlock, ProbeAck, ProbeAckData, Grant, GrantData, GrantAck}
-use Rattle.machine_types.specs.declared.message.Channel.TheVariants.{A, B, C, D, E}
-use Rattle.hart.specs.declared.logged.Logged.{Logged}
+use Rattle.tl_types.specs.declared.message.Body.TheVariants.{AcquireBlock, ProbeBlock, ProbeAck, ProbeAckData, Grant, GrantData, GrantAck}
+use Rattle.tl_types.specs.declared.message.Channel.TheVariants.{A, B, C, D, E}
+use Rattle.trace_recorder.specs.declared.logged.Logged.{Logged}
 
 -- what is known of a state before the manager's messages are looked at
 pub record IsPlain (s : State) : Type 0 where

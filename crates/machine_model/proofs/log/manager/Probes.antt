@@ -33,13 +33,13 @@ use Rattle.machine_model.proofs.log.manager.Sums.{below_more, settled_by_all}
 use Rattle.machine_model.proofs.coherence.WorldFits.{kit_at}
 use Rattle.machine_model.proofs.coherence.WorldKept.{front_line}
 use Rattle.machine_model.proofs.coherence.WorldManager.{rests}
-use Rattle.machine_types.specs.declared.message.Body.{Body}
-use Rattle.machine_types.specs.declared.message.Body.TheVariants.{AcquireBlock, ProbeBlock}
-use Rattle.machine_types.specs.declared.message.Channel.TheVariants.{A}
-use Rattle.machine_types.specs.declared.message.Msg.{Msg}
-use Rattle.machine_types.specs.declared.permission.Cap.{Cap}
-use Rattle.machine_types.specs.declared.permission.Grow.{Grow}
-use Rattle.hart.specs.declared.logged.Logged.{Logged}
+use Rattle.tl_types.specs.declared.message.Body.{Body}
+use Rattle.tl_types.specs.declared.message.Body.TheVariants.{AcquireBlock, ProbeBlock}
+use Rattle.tl_types.specs.declared.message.Channel.TheVariants.{A}
+use Rattle.tl_types.specs.declared.message.Msg.{Msg}
+use Rattle.tl_types.specs.declared.permission.Cap.{Cap}
+use Rattle.tl_types.specs.declared.permission.Grow.{Grow}
+use Rattle.trace_recorder.specs.declared.logged.Logged.{Logged}
 
 -- each question of this kind is answered, hart by hart
 abbrev pub EachAnswered : (question answer : Body → Bool) → ℕ → ℕ → ℕ → List Logged → Type 0

@@ -10,11 +10,11 @@ use Rattle.machine_model.specs.Views.{Node, State}
 use Rattle.machine_model.proofs.coherence.LineViews.{of_line}
 use Rattle.machine_model.proofs.log.Queues.{IsInOrder}
 use Rattle.tilelink_channels.specs.Queues.{queue_of}
-use Rattle.machine_types.specs.Message.{channel_of, channel_of_body}
-use Rattle.machine_types.specs.declared.message.Body.{Body}
-use Rattle.machine_types.specs.declared.message.Channel.{Channel}
-use Rattle.machine_types.specs.declared.message.Msg.{Msg}
-use Rattle.hart.specs.declared.logged.Logged.{Logged}
+use Rattle.tl_types.specs.Message.{channel_of, channel_of_body}
+use Rattle.tl_types.specs.declared.message.Body.{Body}
+use Rattle.tl_types.specs.declared.message.Channel.{Channel}
+use Rattle.tl_types.specs.declared.message.Msg.{Msg}
+use Rattle.trace_recorder.specs.declared.logged.Logged.{Logged}
 
 -- how many messages of a kind stand in a list
 abbrev pub count_in : (Body → Bool) → List Body → ℕ

@@ -12,13 +12,13 @@ use Rattle.machine_model.proofs.coherence.LineViews.{of_line, of_line_other, of_
 use Rattle.machine_model.proofs.log.Counts.{bit, sent_in, sent_out, taken_in, taken_out}
 use Rattle.machine_model.proofs.log.Lists.{comes_out, goes_in, is_in, part, sent_on_sent, sent_on_taken, taken_on_sent, taken_on_taken}
 use Rattle.machine_model.proofs.log.manager.Queues.{GoesOn, count_in, taken_in_line}
-use Rattle.machine_types.specs.Message.{channel_of, channel_of_body}
-use Rattle.machine_types.specs.declared.message.Body.{Body}
-use Rattle.machine_types.specs.declared.message.Body.TheVariants.{AcquireBlock, ProbeBlock, ProbeAck, ProbeAckData, Release, ReleaseData, Grant, GrantData, ReleaseAck, GrantAck}
-use Rattle.machine_types.specs.declared.message.Channel.TheVariants.{A}
-use Rattle.machine_types.specs.declared.message.Msg.{Msg}
-use Rattle.machine_types.specs.declared.permission.Grow.{Grow}
-use Rattle.hart.specs.declared.logged.Logged.{Logged}
+use Rattle.tl_types.specs.Message.{channel_of, channel_of_body}
+use Rattle.tl_types.specs.declared.message.Body.{Body}
+use Rattle.tl_types.specs.declared.message.Body.TheVariants.{AcquireBlock, ProbeBlock, ProbeAck, ProbeAckData, Release, ReleaseData, Grant, GrantData, ReleaseAck, GrantAck}
+use Rattle.tl_types.specs.declared.message.Channel.TheVariants.{A}
+use Rattle.tl_types.specs.declared.message.Msg.{Msg}
+use Rattle.tl_types.specs.declared.permission.Grow.{Grow}
+use Rattle.trace_recorder.specs.declared.logged.Logged.{Logged}
 
 -- the message is of this hart and this line
 abbrev pub is_at : ℕ → ℕ → ℕ → Msg → Bool

@@ -8,8 +8,8 @@ use native.Mathlib.Omega.{arith}
 use Rattle.machine_model.specs.LawfulLog.{concerns, is_of_line, is_sent, is_settled, is_settled_for_all, sent_count, taken_count}
 use Rattle.machine_model.proofs.log.Counts.{bit}
 use Rattle.std.proofs.lemmas.Bool.{and_from, and_parts, eq-eqb, eqb-true}
-use Rattle.machine_types.specs.declared.message.Body.{Body}
-use Rattle.hart.specs.declared.logged.Logged.{Logged}
+use Rattle.tl_types.specs.declared.message.Body.{Body}
+use Rattle.trace_recorder.specs.declared.logged.Logged.{Logged}
 
 -- each entry is of one of the first harts
 abbrev pub AreBelow : ℕ → List Logged → Type 0

@@ -7,7 +7,7 @@ use Rattle.machine_model.specs.Laws.{QueuesFit}
 use Rattle.machine_model.specs.Ready.{IsReadyAct}
 use Rattle.machine_model.specs.Views.{State}
 use Rattle.machine_parts.specs.Needs.{HasNeeded, needs_of}
-use Rattle.hart.specs.History.{Room}
+use Rattle.trace_recorder.specs.History.{Room}
 use Rattle.machine_parts.proofs.perform.perform.Goals as goal
 
 -- what is said of an act that is this one

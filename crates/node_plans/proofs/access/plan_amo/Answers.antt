@@ -3,8 +3,8 @@ use Rattle.machine_model.specs.Steps.{update, write_waits}
 use Rattle.machine_model.specs.Views.{Node}
 use Rattle.machine_model.specs.Words.{read_from}
 use Rattle.node_plans.specs.Accesses.{fetched_of}
-use Rattle.machine_types.specs.Line.{line_of}
-use Rattle.machine_types.specs.declared.line.LineSize.{LineSize}
+use Rattle.tl_types.specs.Line.{line_of}
+use Rattle.tl_types.specs.declared.line.LineSize.{LineSize}
 use Rattle.node_plans.proofs.FoundAccesses.{amo_writing}
 use Rattle.node_plans.proofs.access.plan_amo.Goals as goal
 

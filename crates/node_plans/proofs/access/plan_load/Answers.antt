@@ -6,8 +6,8 @@ use Rattle.machine_model.specs.declared.act.Deed.TheVariants as deed
 use Rattle.node_plans.specs.Accesses.{fetched_of}
 use Rattle.rv32_exec.specs.Width.{byte_count}
 use Rattle.store_buffer.specs.ByteMask.{laid_over}
-use Rattle.machine_types.specs.Line.{line_of}
-use Rattle.machine_types.specs.declared.line.LineSize.{LineSize}
+use Rattle.tl_types.specs.Line.{line_of}
+use Rattle.tl_types.specs.declared.line.LineSize.{LineSize}
 use Rattle.node_plans.proofs.FoundAccesses.{load_reading, load_waiting}
 use Rattle.node_plans.proofs.access.plan_load.Goals as goal
 

@@ -4,8 +4,8 @@ use Rattle.machine_model.specs.Views.{Node}
 use Rattle.machine_model.specs.Words.{read_from}
 use Rattle.machine_model.specs.declared.act.Deed.TheVariants as deed
 use Rattle.node_plans.specs.Accesses.{fetched_of}
-use Rattle.machine_types.specs.Line.{line_of}
-use Rattle.machine_types.specs.declared.line.LineSize.{LineSize}
+use Rattle.tl_types.specs.Line.{line_of}
+use Rattle.tl_types.specs.declared.line.LineSize.{LineSize}
 use Rattle.node_plans.proofs.FoundAccesses.{lr_waiting, lr_writing}
 use Rattle.node_plans.proofs.access.plan_lr.Goals as goal
 

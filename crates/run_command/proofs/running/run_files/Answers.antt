@@ -18,7 +18,7 @@ use Rattle.machine_types.specs.declared.event.Event.{Event}
 use Rattle.std.specs.Io.KnownBytes.{Appends}
 use Rattle.std.specs.List.{AllByRecursion}
 use Rattle.text_fields.specs.Writing.{Begins}
-use Rattle.hart.specs.History.{History}
+use Rattle.trace_recorder.specs.History.{History}
 use Rattle.trace_text.specs.Scripts.{IsEvent, text as script_text}
 use Rattle.trace_text.specs.TraceLimits.{IsTrace}
 use Rattle.trace_text.specs.Traces.{text}

@@ -1,6 +1,6 @@
 use Rattle.std.proofs.Common.{◌≡◌, ◌&&◌, ◌||◌, drop}
 use Rattle.memory_model.specs.Traces.{is_among, is_distinct}
-use Rattle.hart.specs.declared.operation.OpId.{OpId}
+use Rattle.trace_recorder.specs.declared.operation.OpId.{OpId}
 use Rattle.trace_operations.specs.Indexed.{has_name}
 use Rattle.trace_operations.proofs.Gathered.{are_new}
 use Rattle.trace_operations.proofs.names.distinct_names.Given as goal

@@ -1,6 +1,6 @@
 use Rattle.std.proofs.Common.{◌≡◌, ◌&&◌, ◌||◌, drop}
 use Rattle.memory_model.specs.Traces.{is_among}
-use Rattle.hart.specs.declared.operation.OpId.{OpId}
+use Rattle.trace_recorder.specs.declared.operation.OpId.{OpId}
 use Rattle.trace_operations.specs.Indexed.{has_name, is_listed}
 use Rattle.trace_operations.proofs.names.names_of.Given as goal
 

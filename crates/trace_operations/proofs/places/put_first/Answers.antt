@@ -2,7 +2,7 @@ use Rattle.std.proofs.Common.{◌∙◌, ℕ, ap, arith, cond}
 use Rattle.memory_model.specs.Operations.{same}
 use Rattle.memory_model.specs.Traces.{is_named}
 use Rattle.memory_model.specs.Verdict.{name_of}
-use Rattle.hart.specs.declared.operation.OpId.{OpId}
+use Rattle.trace_recorder.specs.declared.operation.OpId.{OpId}
 use Rattle.trace_operations.specs.Indexed.{known, number_in}
 use Rattle.trace_operations.proofs.Indexed.{kept_there, put_there}
 use Rattle.trace_operations.proofs.Tables.{known_missing, known_put, known_there}

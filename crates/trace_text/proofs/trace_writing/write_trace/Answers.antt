@@ -8,9 +8,9 @@ use Rattle.text_fields.specs.Pages.{Paged}
 use Rattle.text_fields.specs.Writing.{Begins}
 use Rattle.text_fields.proofs.Pages.{page_first, page_as, page_more, page_fails, page_out}
 use Rattle.text_fields.proofs.Written.{stops}
-use Rattle.machine_types.specs.Line.{length_of}
-use Rattle.hart.specs.declared.operation.OpId.{OpId}
-use Rattle.hart.specs.declared.logged.Logged.{Logged}
+use Rattle.tl_types.specs.Line.{length_of}
+use Rattle.trace_recorder.specs.declared.operation.OpId.{OpId}
+use Rattle.trace_recorder.specs.declared.logged.Logged.{Logged}
 use Rattle.trace_text.specs.declared.head.TraceHead.{TraceHead}
 use Rattle.trace_text.specs.Traces.{head, head_of, image, entries, operation, logged, status}
 use Rattle.trace_text.proofs.TraceWriting.{image_is}

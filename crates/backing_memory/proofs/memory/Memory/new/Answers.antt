@@ -2,7 +2,7 @@ use Rattle.std.proofs.Common.{◌≡◌, length, ap, arith}
 use Rattle.backing_memory.specs.Places.{length-lines_of}
 use Rattle.backing_memory.proofs.memory.Memory.new.Goals as goal
 use Rattle.backing_memory.proofs.memory.Memory.new.Goals.{in-Bytes16+in_ok-cut-in-Bytes16, in-Bytes64+in_ok-cut-in-Bytes64}
-use Rattle.machine_types.specs.declared.line.LineSize.TheVariants as size
+use Rattle.tl_types.specs.declared.line.LineSize.TheVariants as size
 
 pub invariant_of-result : goal.invariant_of-result
 invariant_of-result c =

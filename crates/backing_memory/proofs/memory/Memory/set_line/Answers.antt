@@ -4,7 +4,7 @@ use Rattle.backing_memory.specs.Lines.{lines_in}
 use Rattle.backing_memory.proofs.Lines.{short-is_not-long, long-is_not-short}
 use Rattle.backing_memory.proofs.memory.Memory.set_line.Goals as goal
 use Rattle.backing_memory.proofs.memory.Memory.set_line.Goals.{in-Bytes16+in-Bytes16-line, in-Bytes64+in-Bytes64-line}
-use Rattle.machine_types.specs.declared.line.LineData.TheVariants as data_of
+use Rattle.tl_types.specs.declared.line.LineData.TheVariants as data_of
 
 pub unreachable-requires : goal.unreachable-requires
 unreachable-requires c =

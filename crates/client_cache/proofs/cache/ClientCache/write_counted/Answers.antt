@@ -1,5 +1,5 @@
 use Rattle.std.proofs.Common.{◌≡◌, true, Some, None, sym, ap, ◌∙◌, refl, arith}
-use Rattle.machine_types.specs.declared.permission.Perm.TheVariants.{Nothing, Trunk as TrunkPerm}
+use Rattle.tl_types.specs.declared.permission.Perm.TheVariants.{Nothing, Trunk as TrunkPerm}
 use Rattle.client_cache.specs.declared.held.Held.TheVariants.{Trunk}
 use Rattle.client_cache.specs.Held.{perm_of}
 use Rattle.client_cache.specs.Array.{copy_in}

@@ -1,5 +1,5 @@
 use Rattle.std.proofs.Common.{◌≡◌, ◌∙◌, ap, sym}
-use Rattle.machine_types.specs.Permission.{named_by, granted_for}
+use Rattle.tl_types.specs.Permission.{named_by, granted_for}
 use Rattle.directory.specs.declared.answer.Known.{Known}
 use Rattle.directory.specs.Lines.{needs_data}
 use Rattle.directory.proofs.Entries.{line_of-granting, known_at-line_of}

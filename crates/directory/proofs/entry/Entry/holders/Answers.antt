@@ -1,5 +1,5 @@
 use Rattle.std.proofs.Common.{ap, ◌∙◌, ℕ, List, sym}
-use Rattle.machine_types.specs.declared.permission.Grow.{Grow}
+use Rattle.tl_types.specs.declared.permission.Grow.{Grow}
 use Rattle.directory.specs.Harts.{has}
 use Rattle.directory.specs.Lines.{conflicts}
 use Rattle.directory.specs.Entries.{perm_of}

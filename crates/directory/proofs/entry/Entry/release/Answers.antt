@@ -1,4 +1,4 @@
-use Rattle.machine_types.specs.declared.permission.Perm.TheVariants.{Nothing}
+use Rattle.tl_types.specs.declared.permission.Perm.TheVariants.{Nothing}
 use Rattle.directory.proofs.Entries.{line_of-noted}
 use Rattle.directory.proofs.entry.Entry.release.Goals as goal
 

@@ -1,6 +1,6 @@
 use Rattle.client_cache.specs.Cache.{granted}
 use Rattle.machine_model.specs.Views.{node_at}
-use Rattle.machine_types.specs.declared.message.Body.TheVariants.{GrantAck}
+use Rattle.tl_types.specs.declared.message.Body.TheVariants.{GrantAck}
 use Rattle.machine_parts.proofs.Rooms.{had_room_after}
 use Rattle.machine_parts.proofs.perform.client.on_grant.Goals as goal
 

@@ -1,7 +1,7 @@
 use Rattle.std.proofs.Common.{◌≡◌, ◌+◌, ◌<◌, ◌≤◌, length, slice_index}
 use Rattle.machine_types.specs.declared.limits.TheConstants.{MAX_ENTRIES}
 use Rattle.machine_model.specs.Changing.{with_entries}
-use Rattle.hart.specs.History.{entries_of}
+use Rattle.trace_recorder.specs.History.{entries_of}
 use Rattle.machine_parts.proofs.perform.commit.retire_all.Given as goal
 
 abbrev pub invariant-loop-rest : goal.invariant-loop-rest

@@ -3,7 +3,7 @@ use Rattle.machine_model.specs.Deliveries.{handled}
 use Rattle.machine_model.specs.Laws.{QueuesFit}
 use Rattle.machine_model.specs.Ready.{IsReadyBody}
 use Rattle.machine_model.specs.Views.{State}
-use Rattle.machine_types.specs.declared.message.Body.{Body}
+use Rattle.tl_types.specs.declared.message.Body.{Body}
 use Rattle.machine_parts.proofs.perform.deliver.handle.Goals as goal
 
 -- the body is this one

@@ -5,7 +5,7 @@ use Rattle.machine_model.specs.Changing.{sent_if_evicted}
 use Rattle.machine_model.specs.Deliveries.{with_less}
 use Rattle.machine_model.specs.Laws.{QueuesFit}
 use Rattle.machine_model.specs.Views.{node_at, sent, with_node}
-use Rattle.machine_types.specs.declared.message.Body.{Body}
+use Rattle.tl_types.specs.declared.message.Body.{Body}
 use Rattle.machine_parts.proofs.Rooms.{had_room_after}
 use Rattle.machine_parts.proofs.perform.evict.give_up.Goals as goal
 

@@ -3,7 +3,7 @@ use Rattle.std.proofs.lemmas.List.{length-set}
 use Rattle.hart.specs.Run.{reached}
 use Rattle.hart.specs.declared.retired.Retired.{Retired}
 use Rattle.machine_model.specs.Changing.{with_entries}
-use Rattle.hart.specs.History.{Recorded}
+use Rattle.trace_recorder.specs.History.{Recorded}
 use Rattle.machine_parts.proofs.RowsAlone.{ends, goes, place_left, room_left, row_goes, row_leads}
 use Rattle.machine_parts.proofs.perform.local.retire_row.Goals as goal
 

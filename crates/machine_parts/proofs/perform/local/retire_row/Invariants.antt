@@ -3,7 +3,7 @@ use Rattle.machine_types.specs.declared.limits.TheConstants.{MAX_ENTRIES}
 use Rattle.hart.specs.Local.{private_row}
 use Rattle.hart.specs.Run.{reached}
 use Rattle.machine_model.specs.Changing.{with_entries}
-use Rattle.hart.specs.History.{entries_of}
+use Rattle.trace_recorder.specs.History.{entries_of}
 use Rattle.machine_parts.proofs.perform.local.retire_row.Given as goal
 
 -- what is left of the row goes on from the last hart

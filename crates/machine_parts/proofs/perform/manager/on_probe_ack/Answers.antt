@@ -9,8 +9,8 @@ use Rattle.machine_parts.specs.Standing.{Standing}
 use Rattle.machine_model.specs.Views.{line_size, place_of}
 use Rattle.machine_parts.specs.Handled.{HasLine, HasSize, written_back}
 use Rattle.machine_parts.proofs.Answered.{count_back, fit_granted, probe_acked_is}
-use Rattle.machine_types.specs.Line.{size_of}
-use Rattle.machine_types.specs.declared.line.LineSize.{LineSize}
+use Rattle.tl_types.specs.Line.{size_of}
+use Rattle.tl_types.specs.declared.line.LineSize.{LineSize}
 use Rattle.machine_parts.proofs.perform.manager.on_probe_ack.Goals as goal
 
 abbrev pair : Notes → Option Grant → Option Grant × Notes

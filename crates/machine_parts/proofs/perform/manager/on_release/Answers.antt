@@ -8,8 +8,8 @@ use Rattle.machine_parts.specs.Handled.{HasLine, HasSize, written_back}
 use Rattle.machine_parts.specs.Parts.{standing_of}
 use Rattle.machine_parts.specs.Standing.{Standing}
 use Rattle.machine_parts.proofs.Answered.{had_room_released, released_is}
-use Rattle.machine_types.specs.Line.{size_of}
-use Rattle.machine_types.specs.declared.line.LineSize.{LineSize}
+use Rattle.tl_types.specs.Line.{size_of}
+use Rattle.tl_types.specs.declared.line.LineSize.{LineSize}
 use Rattle.machine_parts.proofs.perform.manager.on_release.Goals as goal
 
 pub send-requires-clause-queue : goal.send-requires-clause-queue

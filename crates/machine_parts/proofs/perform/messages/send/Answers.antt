@@ -1,6 +1,6 @@
 use Rattle.std.proofs.Common.{◌∙◌, ap}
-use Rattle.hart.specs.History.{Recorded}
-use Rattle.hart.specs.declared.logged.Direction.TheVariants.{Sent}
+use Rattle.trace_recorder.specs.History.{Recorded}
+use Rattle.trace_recorder.specs.declared.logged.Direction.TheVariants.{Sent}
 use Rattle.machine_model.specs.Views.{Node}
 use Rattle.machine_parts.specs.Parts.{standing_of}
 use Rattle.machine_parts.proofs.Nodes.{changed, logged_at}

@@ -1,11 +1,11 @@
 use Rattle.std.proofs.Common.{◌∙◌, ap}
-use Rattle.hart.specs.History.{Recorded}
-use Rattle.hart.specs.declared.logged.Direction.TheVariants.{Taken}
+use Rattle.trace_recorder.specs.History.{Recorded}
+use Rattle.trace_recorder.specs.declared.logged.Direction.TheVariants.{Taken}
 use Rattle.machine_model.specs.Views.{Node}
 use Rattle.machine_parts.specs.Parts.{standing_of}
 use Rattle.machine_parts.proofs.Nodes.{changed, logged_at}
 use Rattle.tilelink_channels.specs.Queues.{Waiting, popped}
-use Rattle.machine_types.specs.Message.{channel_of}
+use Rattle.tl_types.specs.Message.{channel_of}
 use Rattle.machine_parts.proofs.perform.messages.take.Goals as goal
 
 pub returns-clause-state : goal.returns-clause-state

@@ -1,4 +1,4 @@
-use Rattle.machine_types.specs.declared.message.Body.TheVariants.{AcquireBlock}
+use Rattle.tl_types.specs.declared.message.Body.TheVariants.{AcquireBlock}
 use Rattle.machine_parts.proofs.Rooms.{had_room_after}
 use Rattle.machine_parts.proofs.perform.miss.miss.Goals as goal
 

@@ -5,8 +5,8 @@ use Rattle.machine_model.specs.declared.act.Act.TheVariants as act
 use Rattle.machine_model.specs.declared.act.Plan.TheVariants.{Changes}
 use Rattle.machine_types.specs.declared.outcome.Outcome.{Outcome}
 use Rattle.tilelink_channels.specs.Queues.{front_of, queue_of}
-use Rattle.machine_types.specs.declared.message.Msg.{Msg}
-use Rattle.machine_types.specs.declared.message.Channel.{Channel}
+use Rattle.tl_types.specs.declared.message.Msg.{Msg}
+use Rattle.tl_types.specs.declared.message.Channel.{Channel}
 use Rattle.machine_parts.specs.Deciding.{unless_stalled}
 use Rattle.machine_parts.proofs.Fronts.{front_waits, from_base, noted_line}
 use Rattle.machine_parts.proofs.plan.deliver.plan_deliver.Goals as goal

@@ -1,0 +1,4 @@
+pub mod Line
+pub mod Message
+pub mod Permission
+pub mod Shrink
