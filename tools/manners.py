@@ -163,6 +163,9 @@ def main():
                  ["rvtl: -: cannot read", "note: standard input is read once"], stdin=file)
         ends("standard input that is closed", [*read_script, "-"], 1,
              ["rvtl: -: cannot read", "note: Bad file descriptor (os error 9)"], preexec_fn=lambda: os.close(0))
+        ends("an order that isn't legal", [rvtl, "check", f"{EXAMPLES}/exchanged.trace"], 3,
+             ["note: 0:2 `sw a3, 256(a2)` has to be performed before 0:5 `sw a3, 256(a2)` (rule 1, OverlappingStore): the "
+              "second is a store to a byte of the first"])
         ends("a journal on standard input", [rvtl, "run", "--raw", "--journal", "-", IMAGE], 1,
              ["rvtl: -: cannot write", "note: standard input is not written"])
         ends("a journal on a full device", [rvtl, "run", "--raw", "--journal", "/dev/full", IMAGE], 1,
