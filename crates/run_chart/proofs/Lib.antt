@@ -1,2 +1,8 @@
 pub mod Telling
 pub mod Limits
+pub mod Appending
+pub mod Arrows
+pub mod Escaping
+pub mod Opening
+pub mod Written
+pub mod Pictures

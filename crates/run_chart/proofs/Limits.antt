@@ -2,8 +2,8 @@
 use Rattle.std.proofs.Common.{ℕ, ◌≡◌, ◌∙◌, ◌+◌, ◌-◌, ◌<◌, ◌≤◌, Err, IfErr, Ok, Result, refl, sym, ap, subst, List, [], ◌∷◌, ◌++◌, length, Option, inl, inr, arith, get_or, take, drop, true, false, not, Bool, ◌&&◌, if◌then◌else◌}
 use Rattle.std.proofs.lemmas.List.{length-append}
 use Rattle.std.specs.Prelude.{IsErrAnd}
-use Rattle.chart_rows.specs.declared.rows.Note.{Note}
-use Rattle.chart_rows.specs.declared.rows.Noted.{Noted}
+use Rattle.run_chart.specs.declared.rows.Note.{Note}
+use Rattle.run_chart.specs.declared.rows.Noted.{Noted}
 use Rattle.coherent_machine.specs.Machine.{Replayed, replayed_from}
 use Rattle.elf_loader.specs.Image.{Initial}
 use Rattle.machine_types.specs.declared.config.Config.{Config}

@@ -3,7 +3,7 @@ use Rattle.std.proofs.Common.{ℕ, ◌≡◌, ◌∙◌, ◌+◌, ◌-◌, ◌�
 use Rattle.std.proofs.lemmas.List.{append-nil, length-drop, map-append, take_all}
 use Rattle.std.specs.Prelude.{OnOk, map}
 use Rattle.std.specs.declared.result.Result.{Result}
-use Rattle.chart_rows.specs.declared.rows.Row.{Row}
+use Rattle.run_chart.specs.declared.rows.Row.{Row}
 use Rattle.event_stream.specs.Reports.{Report}
 use Rattle.event_stream.specs.Telling.{report_behind}
 use Rattle.machine_types.specs.declared.event.Event.{Event}

@@ -1,8 +1,8 @@
 -- What a call that writes a chart has put out.
 use Rattle.std.specs.Prelude.{ℕ, ◌≡◌, List, Option}
 use Rattle.std.specs.Io.KnownBytes.{Appends}
-use Rattle.chart_rows.specs.Picture.{IsPicture}
-use Rattle.chart_rows.specs.declared.rows.Story.{Story}
+use Rattle.run_chart.specs.Picture.{IsPicture}
+use Rattle.run_chart.specs.declared.rows.Story.{Story}
 use Rattle.coherent_machine.specs.Machine.{IsFirstRefusal}
 use Rattle.elf_loader.specs.Image.{Initial}
 use Rattle.machine_model.specs.Views.{opening}

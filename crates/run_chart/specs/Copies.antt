@@ -1,8 +1,8 @@
 -- The lines of memory in play, and what caches hold of them.
 use Rattle.std.specs.Prelude.{ℕ, ◌==◌, ◌&&◌, not, Bool, true, false, List, [], ◌∷◌, ◌++◌, Option, Some, None, length, nat_lt, if◌then◌else◌}
-use Rattle.chart_drawing.specs.declared.shapes.Hold.{Hold}
-use Rattle.chart_drawing.specs.declared.shapes.Hold.TheVariants as hold
-use Rattle.chart_rows.specs.declared.rows.Copied.{Copied}
+use Rattle.run_chart.specs.declared.shapes.Hold.{Hold}
+use Rattle.run_chart.specs.declared.shapes.Hold.TheVariants as hold
+use Rattle.run_chart.specs.declared.rows.Copied.{Copied}
 use Rattle.client_cache.specs.Cache.{copy_at}
 use Rattle.client_cache.specs.declared.held.Held.{Held}
 use Rattle.client_cache.specs.declared.held.Held.TheVariants.{Branch, Trunk}

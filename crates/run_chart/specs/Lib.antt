@@ -6,3 +6,12 @@ pub mod Notes
 pub mod Rows
 pub mod Stories
 pub mod Charts
+pub mod Markup
+pub mod Laws
+pub mod Plan
+pub mod Shapes
+pub mod Sheet
+pub mod Texts
+pub mod Arrows
+pub mod Bars
+pub mod Picture

@@ -1,8 +1,8 @@
 -- On which lines of text messages and notes stand.
 use Rattle.std.specs.Prelude.{ℕ, ◌+◌, List, [], ◌∷◌, Option, max, if◌then◌else◌}
-use Rattle.chart_rows.specs.declared.rows.Note.{Note}
-use Rattle.chart_rows.specs.declared.rows.Noted.{Noted}
-use Rattle.chart_rows.specs.declared.rows.Posted.{Posted}
+use Rattle.run_chart.specs.declared.rows.Note.{Note}
+use Rattle.run_chart.specs.declared.rows.Noted.{Noted}
+use Rattle.run_chart.specs.declared.rows.Posted.{Posted}
 use Rattle.trace_recorder.specs.declared.logged.Logged.{Logged}
 use Rattle.run_chart.specs.Copies.{is_about}
 

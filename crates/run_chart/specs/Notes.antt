@@ -2,8 +2,8 @@
 use Rattle.std.specs.Prelude.{ℕ, ◌==◌, Bool, true, false, List, [], ◌∷◌, ◌++◌, Option, Some, None, map, slice_get, if◌then◌else◌}
 use Rattle.std.specs.List.{flat_map}
 use Rattle.std.specs.Option.{option_to_list}
-use Rattle.chart_rows.specs.declared.rows.Note.{Note}
-use Rattle.chart_rows.specs.declared.rows.Note.TheVariants as note
+use Rattle.run_chart.specs.declared.rows.Note.{Note}
+use Rattle.run_chart.specs.declared.rows.Note.TheVariants as note
 use Rattle.event_stream.specs.Reports.{Report}
 use Rattle.hart.specs.declared.retired.Retired.{Retired}
 use Rattle.machine_types.specs.declared.outcome.Outcome.{Outcome}

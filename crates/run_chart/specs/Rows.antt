@@ -1,11 +1,11 @@
 -- The rows of a run: one for each event that changes the machine, in their order.
 use Rattle.std.specs.Prelude.{ℕ, ◌+◌, ◌||◌, Bool, true, false, List, [], ◌∷◌, ◌++◌, Option, Some, None, length, map, nat_lt, if◌then◌else◌}
 use Rattle.std.specs.List.{list_any}
-use Rattle.chart_rows.specs.declared.rows.Copied.{Copied}
-use Rattle.chart_rows.specs.declared.rows.Note.{Note}
-use Rattle.chart_rows.specs.declared.rows.Noted.{Noted}
-use Rattle.chart_rows.specs.declared.rows.Posted.{Posted}
-use Rattle.chart_rows.specs.declared.rows.Row.{Row}
+use Rattle.run_chart.specs.declared.rows.Copied.{Copied}
+use Rattle.run_chart.specs.declared.rows.Note.{Note}
+use Rattle.run_chart.specs.declared.rows.Noted.{Noted}
+use Rattle.run_chart.specs.declared.rows.Posted.{Posted}
+use Rattle.run_chart.specs.declared.rows.Row.{Row}
 use Rattle.event_stream.specs.Lines.{script_line_of}
 use Rattle.event_stream.specs.Reports.{Report}
 use Rattle.event_stream.specs.Telling.{lengths_of, report_behind}

@@ -6,7 +6,7 @@ use Rattle.machine_model.specs.Events.{happens}
 use Rattle.machine_model.specs.Views.{State, opening}
 use Rattle.machine_types.specs.declared.config.Config.{Config}
 use Rattle.machine_types.specs.declared.event.Event.{Event}
-use Rattle.chart_rows.specs.declared.rows.Story.{Story}
+use Rattle.run_chart.specs.declared.rows.Story.{Story}
 use Rattle.tl_types.specs.Line.{line_of}
 use Rattle.tl_types.specs.declared.line.LineSize.{LineSize}
 use Rattle.run_chart.specs.declared.errors.ChartError.{ChartError}

@@ -6,8 +6,8 @@ ghost use Rattle.run_chart.specs.declared.errors.RowError.TheVariants as error;
 
 use crate::errors::RowError;
 use crate::row::MOST_ROWS;
-use chart_drawing::Hold;
-use chart_rows::Copied;
+use crate::rows::Copied;
+use crate::shapes::Hold;
 use client_cache::{ClientCache, Held};
 use coherent_machine::Machine;
 use std::alloc::{AllocError, Global};

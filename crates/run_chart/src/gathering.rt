@@ -10,7 +10,7 @@ use crate::before::stood_before;
 use crate::copies::lines_of;
 use crate::errors::{ChartError, RowError};
 use crate::row::{MOST_ROWS, Scope, is_shown, row_of};
-use chart_rows::{Row, Story};
+use crate::rows::{Row, Story};
 use coherent_machine::{Machine, replay};
 use elf_loader::Image;
 use event_stream::Report;

@@ -1,18 +1,30 @@
 //! A run as a picture: the events of a script are applied to a machine, what each did is gathered row by row,
-//! and the rows are drawn.
+//! and the rows are drawn as SVG: a lane for each core and each cache, one for the manager, and time going
+//! down line by line. Everything is written by a small writer of elements that escapes text.
 #![tactic(auto)]
 
 mod accesses;
+mod arrows;
+mod bars;
 mod before;
 mod copies;
+mod drawing;
 mod errors;
 mod gathering;
+mod laws;
+mod markup;
 mod notes;
+mod plan;
 mod posting;
 mod row;
+mod rows;
+mod shapes;
+mod sheet;
+mod texts;
 mod writing;
 
 pub use errors::ChartError;
-pub use gathering::gather;
+pub use laws::escaping_is_safe;
 pub use row::{MOST_LINES, MOST_ROWS};
+pub use sheet::STYLE;
 pub use writing::write_chart;

@@ -2,12 +2,12 @@
 ghost use Rattle.std.specs.Prelude.{◌≡◌, ◌++◌, IfOk, OnOk, length, slice_get, map};
 ghost use Rattle.std.specs.List.{flat_map};
 ghost use Rattle.std.specs.Option.{option_to_list};
-ghost use Rattle.chart_rows.specs.declared.rows.Note.TheVariants as note;
+ghost use Rattle.run_chart.specs.declared.rows.Note.TheVariants as note;
 ghost use Rattle.event_stream.specs.Telling.{report_of};
 ghost use Rattle.run_chart.specs.Notes as notes;
 ghost use Rattle.trace_recorder.specs.History.{entries_of};
 
-use chart_rows::Note;
+use crate::rows::Note;
 use event_stream::Report;
 use hart::Retired;
 use machine_types::Outcome;

@@ -6,7 +6,7 @@ ghost use Rattle.run_chart.specs.declared.errors.RowError.TheVariants as row;
 use crate::copies::is_about;
 use crate::errors::RowError;
 use crate::row::MOST_LINES;
-use chart_rows::{Note, Noted, Posted};
+use crate::rows::{Note, Noted, Posted};
 use std::alloc::{AllocError, Global};
 use trace_recorder::Logged;
 

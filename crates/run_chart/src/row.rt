@@ -12,7 +12,7 @@ use crate::copies::{copies_in, is_about};
 use crate::errors::RowError;
 use crate::notes::notes_of;
 use crate::posting::{end_of, noted, posts_of};
-use chart_rows::Row;
+use crate::rows::Row;
 use coherent_machine::Machine;
 use event_stream::{Report, hart_of};
 use std::alloc::Global;

@@ -2,9 +2,9 @@
 ghost use Rattle.std.specs.Prelude.{◌≡◌, Err, IfErr, OnOk};
 ghost use Rattle.run_chart.specs.Charts.{IsDrawn, IsUndrawn};
 
+use crate::drawing::draw;
 use crate::errors::ChartError;
 use crate::gathering::gather;
-use chart_rows::draw;
 use elf_loader::Image;
 use machine_types::{Config, Event};
 use std::alloc::Global;

@@ -3,7 +3,7 @@ use Rattle.std.proofs.Common.{◌≡◌, ◌⊎◌, ℕ, List, Option, inl, inr,
 use Rattle.std.specs.Io.KnownBytes.{Keeps}
 use Rattle.coherent_machine.specs.Machine.{IsFirstRefusal}
 use Rattle.coherent_machine.specs.declared.errors.ReplayError.TheVariants as refusals
-use Rattle.chart_drawing.specs.declared.sheet.TheConstants.{STYLE}
+use Rattle.run_chart.specs.declared.sheet.TheConstants.{STYLE}
 use Rattle.script_commands.specs.Charting.{IsAddress, IsChartFault, IsDrawingFault, IsPictureCutOff}
 use Rattle.command_files.specs.Faults.{LeavesAtFault, Name}
 use Rattle.command_files.specs.Files.{HoldsImage, HoldsScript}

@@ -1,6 +1,6 @@
 -- What drawing a script has done, and which faults it tells.
 use Rattle.script_commands.specs.Addresses.{address}
-use Rattle.chart_drawing.specs.declared.sheet.TheConstants.{STYLE}
+use Rattle.run_chart.specs.declared.sheet.TheConstants.{STYLE}
 use Rattle.coherent_machine.specs.declared.errors.ReplayError.TheVariants as refusals
 use Rattle.command_files.specs.Faults.{IsReplayFault, Name}
 use Rattle.command_files.specs.Files.{HoldsImage, HoldsScript, IsTheScriptIn}

@@ -1,6 +1,6 @@
 use Rattle.std.proofs.Common.{◌≡◌, ◌++◌, length}
 use Rattle.std.specs.Prelude.{map}
-use Rattle.chart_rows.specs.declared.rows.Note.TheVariants as note
+use Rattle.run_chart.specs.declared.rows.Note.TheVariants as note
 use Rattle.run_chart.proofs.notes.add_output.Given as goal
 
 abbrev pub invariant-loop-rest : goal.invariant-loop-rest

@@ -1,4 +1,0 @@
-pub mod Appending
-pub mod Arrows
-pub mod Escaping
-pub mod Opening

@@ -1,7 +1,0 @@
-use Rattle.std.proofs.Common.{◌≡◌, ◌++◌, take}
-use Rattle.std.specs.List.{flat_map}
-use Rattle.chart_drawing.specs.Markup.{attribute}
-use Rattle.chart_drawing.proofs.markup.Markup.attributes.Given as goal
-
-abbrev pub invariant-loop-attribute : goal.invariant-loop-attribute
-invariant-loop-attribute l = l.self ≡ l.initial.self ++ flat_map attribute (take l.attribute-index l.attributes)

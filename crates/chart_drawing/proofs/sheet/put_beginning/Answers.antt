@@ -1,5 +1,0 @@
-use Rattle.chart_drawing.proofs.Appending.{three_append}
-use Rattle.chart_drawing.proofs.sheet.put_beginning.Goals as goal
-
-pub returns : goal.returns
-returns c = three_append c.put_ground.result _ _ _ _ _ _ _ c.in_ok-put_frame.ensures c.in_ok-put_about.ensures c.put_ground.ensures

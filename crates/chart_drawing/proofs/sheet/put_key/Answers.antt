@@ -1,5 +1,0 @@
-use Rattle.chart_drawing.proofs.Appending.{two_append}
-use Rattle.chart_drawing.proofs.sheet.put_key.Goals as goal
-
-pub returns : goal.returns
-returns c = two_append c.put_text.result _ _ _ _ _ c.in_ok-put_line.ensures c.put_text.ensures

@@ -1,5 +1,0 @@
-pub mod Markup
-pub mod Laws
-pub mod Plan
-pub mod Shapes
-pub mod Sheet

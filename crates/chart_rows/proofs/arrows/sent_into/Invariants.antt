@@ -1,9 +1,0 @@
-use Rattle.std.proofs.Common.{◌≡◌, ◌+◌, ◌≤◌, drop}
-use Rattle.chart_rows.specs.Arrows.{sent_into}
-use Rattle.chart_rows.proofs.arrows.sent_into.Given as goal
-
-abbrev pub invariant-loop-post : goal.invariant-loop-post
-invariant-loop-post l = record {
-  value : l.count + sent_into l.queue_number (drop l.post-index l.posts) ≡ sent_into l.queue_number l.posts;
-  few : l.count ≤ l.post-index;
-}

@@ -1,9 +1,0 @@
-use Rattle.std.proofs.Common.{◌≡◌, length}
-use Rattle.chart_rows.specs.Bars.{bottom}
-use Rattle.chart_rows.proofs.bars.bottom.Given as goal
-
-abbrev pub invariant-loop-rest : goal.invariant-loop-rest
-invariant-loop-rest l = bottom l.line l.rest ≡ bottom 0 l.rows
-
-abbrev pub decreases-loop-rest : goal.decreases-loop-rest
-decreases-loop-rest l = length l.rest

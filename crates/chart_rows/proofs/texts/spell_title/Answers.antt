@@ -1,5 +1,0 @@
-use Rattle.chart_rows.proofs.Written.{twice}
-use Rattle.chart_rows.proofs.texts.spell_title.Goals as goal
-
-pub returns : goal.returns
-returns c = twice _ _ _ _ _ c.text.ensures.value c.decimal.ensures.value

@@ -1,4 +1,0 @@
-pub mod Texts
-pub mod Arrows
-pub mod Bars
-pub mod Picture
