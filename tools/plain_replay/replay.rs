@@ -10,12 +10,14 @@ mod texts;
 
 use coherent_machine::Machine;
 use elf_loader::{raw, size_of_kib};
-use hart::{Direction, Status, Trace};
+use hart::Status;
 use kit::alloc::Global;
-use machine_types::{Body, Cap, Change, Channel, Config, Event, Grow, LineSize, MemoryModel, Msg};
+use machine_types::{Config, Event, MemoryModel};
 use std::io::Write;
 use std::process::ExitCode;
 use texts::{put_hex, put_number, put_word};
+use tl_types::{Body, Cap, Change, Channel, Grow, LineSize, Msg};
+use trace_recorder::{Direction, Trace};
 
 const BASE: u32 = 0x8000_0000;
 const CHANNELS: [Channel; 5] = [Channel::A, Channel::B, Channel::C, Channel::D, Channel::E];

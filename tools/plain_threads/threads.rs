@@ -7,11 +7,12 @@ use coherent_machine::{AdoptError, ApplyError, Machine, Views};
 use elf_loader::{BASE, Image, load};
 use hart::{Batch, Hart, Status, run_local};
 use kit::alloc::Global;
-use machine_types::{Channel, Config, Event, LineSize, MemoryModel, Outcome};
+use machine_types::{Config, Event, MemoryModel, Outcome};
 use rv32_decode::decode;
 use rv32_exec::{Action, plan};
 use std::sync::atomic::{AtomicBool, AtomicU64, Ordering};
 use std::sync::{Mutex, MutexGuard};
+use tl_types::{Channel, LineSize};
 
 const MOST_ALONE: u32 = 256;
 const MOST_HARTS: usize = 8;
