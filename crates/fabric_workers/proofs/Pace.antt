@@ -2,7 +2,7 @@
 use Rattle.std.proofs.Common.{◌≡◌, ◌∙◌, ⊎_elim, ap, ℕ, ◌+◌, ◌≤◌, List, arith}
 use Rattle.std.specs.declared.result.Result.{Result}
 use Rattle.fabric_workers.specs.Pace.{IsPaced}
-use Rattle.journalled_fabric.specs.FabricState.{Answered, Does, FabricState}
+use Rattle.locked_fabric.specs.FabricState.{Answered, Does, FabricState}
 use Rattle.locked_fabric.specs.Turns.{Draws, DrewInVain, DrewNumber, Leaves}
 use Rattle.locked_fabric.specs.declared.taken.Taken.{Taken}
 use Rattle.locked_fabric.specs.declared.taken.Taken.TheVariants.{Nothing, Over, HeldBack, Tried}

@@ -10,7 +10,7 @@ use Rattle.hart.specs.declared.status.Status.{Status}
 use Rattle.fabric_workers.specs.Faults.{goes_on}
 use Rattle.fabric_workers.specs.Telling.{CountsTo, Reports, Tells, has_ended, longest_with}
 use Rattle.run_reports.specs.declared.report.Fault.{Fault}
-use Rattle.journalled_fabric.specs.FabricState.{Answered, Does, FabricState, journalled}
+use Rattle.locked_fabric.specs.FabricState.{Answered, Does, FabricState, journalled}
 use Rattle.locked_fabric.specs.Port.{Applied, Committed, Left, seen_in}
 use Rattle.locked_fabric.specs.Turns.{Draws, DrewInVain, IsPick, Leaves}
 use Rattle.locked_fabric.specs.declared.taken.Taken.{Taken}

@@ -2,7 +2,7 @@
 use Rattle.std.specs.Prelude.{◌≡◌, ◌⊎◌, ℕ, ◌+◌, ◌==◌, ◌||◌, Bool, false, not, max, Option, Some, None, if◌then◌else◌}
 use Rattle.hart.specs.Run.{is_running}
 use Rattle.hart.specs.declared.status.Status.{Status}
-use Rattle.journalled_fabric.specs.FabricState.{FabricState}
+use Rattle.locked_fabric.specs.FabricState.{FabricState}
 use Rattle.locked_fabric.specs.Port.{IsLast, seen_in}
 use Rattle.machine_types.specs.declared.event.Event.{Event}
 use Rattle.progress_board.specs.declared.view.View.{View}

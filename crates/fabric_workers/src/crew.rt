@@ -7,8 +7,7 @@ ghost use Rattle.progress_board.specs.Seat.{AreFresh, IsSeatOf, view};
 
 use crate::gate::Gate;
 use crate::worker::{Done, Worker};
-use journalled_fabric::{Fabric, Share};
-use locked_fabric::{Port, Turn};
+use locked_fabric::{Fabric, Port, Share, Turn};
 use progress_board::Seat;
 use run_reports::{Common, RunError};
 use std::alloc::AllocError;

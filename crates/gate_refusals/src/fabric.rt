@@ -10,7 +10,7 @@ use crate::shown::{Pages, show_fabric, show_machine};
 use anyhow::{Result, ensure};
 use coherent_machine::{AdoptError, ApplyError, Machine};
 use hart::Batch;
-use journalled_fabric::{Fabric, Share};
+use locked_fabric::{Fabric, Share};
 use machine_types::{Config, Event, Outcome};
 use std::marker::Brand;
 use std::str::from_utf8;

@@ -12,8 +12,7 @@ ghost use Rattle.progress_board.specs.Seat.{AreFresh, IsSeatOf, harts_of};
 
 use elf_loader::Image;
 use fabric_workers::{Done, Gate, Rounds, Worker, run_all, workers};
-use journalled_fabric::{Fabric, Share};
-use locked_fabric::Turn;
+use locked_fabric::{Fabric, Share, Turn};
 use machine_types::Config;
 use progress_board::Seat;
 use run_reports::{Common, Report, RunError, report_of, shared};

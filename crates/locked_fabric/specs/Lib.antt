@@ -1,2 +1,3 @@
+pub mod FabricState
 pub mod Port
 pub mod Turns

@@ -24,7 +24,7 @@ use Rattle.progress_board.specs.declared.seat.Seat.{Seat}
 use Rattle.trace_recorder.specs.History.{History, entries_of}
 use Rattle.locked_fabric.specs.contracts.port.Port.{the_row}
 use Rattle.locked_fabric.specs.declared.port.Port.{Port}
-use Rattle.journalled_fabric.specs.FabricState.{FabricState, Answered, IsKept, journalled}
+use Rattle.locked_fabric.specs.FabricState.{FabricState, Answered, IsKept, journalled}
 
 -- ---- what a port has
 

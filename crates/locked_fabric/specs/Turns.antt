@@ -6,7 +6,7 @@ use Rattle.machine_model.specs.Views.{State}
 use Rattle.progress_board.specs.declared.view.View.{View}
 use Rattle.locked_fabric.specs.declared.taken.Taken.{Taken}
 use Rattle.locked_fabric.specs.declared.taken.Taken.TheVariants.{Nothing, Over, HeldBack, Tried}
-use Rattle.journalled_fabric.specs.FabricState.{Answered, FabricState}
+use Rattle.locked_fabric.specs.FabricState.{Answered, FabricState}
 
 -- the seat's view, once it drew this number
 abbrev pub with_number : View → ℕ → View

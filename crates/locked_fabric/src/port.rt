@@ -5,13 +5,14 @@ ghost use Rattle.std.specs.Borrow.{sem};
 ghost use Rattle.coherent_machine.specs.Adopting.{local_of};
 ghost use Rattle.locked_fabric.specs.Port as spec;
 
+use crate::fabric::Fabric;
 use crate::numbers::Numbers;
+use crate::share::Share;
 use crate::taken::Taken;
 use crate::taking;
 use crate::turn::{Turn, Visit};
 use coherent_machine::{AdoptError, ApplyError};
 use hart::{Batch, Hart, Status};
-use journalled_fabric::{Fabric, Share};
 use machine_types::{Event, Outcome};
 use progress_board::Seat;
 use std::sync::atomic::{AtomicU64, Ordering};
@@ -42,7 +43,7 @@ pub struct Port<'a, L: Ledger> {
 
 impl<'a, L: Ledger> Port<'a, L> {
     ghost use Rattle.std.specs.Prelude.{ℕ};
-    ghost use Rattle.journalled_fabric.specs.FabricState.{FabricState, IsKept};
+    ghost use Rattle.locked_fabric.specs.FabricState.{FabricState, IsKept};
     ghost use Rattle.locked_fabric.specs.Turns.{Takes};
     ghost use Rattle.progress_board.specs.Seat.{IsSeatOf, view};
     ghost use Rattle.locked_fabric.specs.Port.{Applied, Committed, IsLast, Left, LendsSeat, hart_at, seat_of, share_of};

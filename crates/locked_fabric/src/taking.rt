@@ -1,13 +1,14 @@
 //! A turn of a worker that holds the lock.
 
-ghost use Rattle.journalled_fabric.specs.FabricState.{IsKept};
+ghost use Rattle.locked_fabric.specs.FabricState.{IsKept};
 ghost use Rattle.locked_fabric.specs.Turns.{Takes};
 ghost use Rattle.progress_board.specs.Seat.{IsSeatOf, view};
 
+use crate::fabric::Fabric;
 use crate::numbers::Numbers;
+use crate::share::Share;
 use crate::taken::Taken;
 use crate::turn::Visit;
-use journalled_fabric::{Fabric, Share};
 use machine_types::Outcome;
 use progress_board::Seat;
 use std::sync::ledger::Ledger;

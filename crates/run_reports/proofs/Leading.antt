@@ -2,7 +2,7 @@
 use Rattle.std.proofs.Common.{◌≡◌, ◌∙◌, refl, sym, subst, ℕ, ◌+◌, List, [], ◌∷◌}
 use Rattle.coherent_machine.specs.Machine.{IsReached, KeepsHeadline, Replayed, replayed_from, unless_refused}
 use Rattle.elf_loader.specs.Image.{Initial, IsImage}
-use Rattle.journalled_fabric.specs.FabricState.{AreMoves, FabricState, IsReplay, reset_of}
+use Rattle.locked_fabric.specs.FabricState.{AreMoves, FabricState, IsReplay, reset_of}
 use Rattle.machine_types.specs.declared.config.Config.{Config}
 use Rattle.machine_types.specs.declared.event.Event.{Event}
 use Rattle.machine_types.specs.declared.outcome.Outcome.{Outcome}

@@ -9,7 +9,7 @@ use Rattle.run_reports.proofs.Leading.{headline_at, leads_to, moves_from, none_r
 use Rattle.run_reports.specs.Replays.{IsRun}
 use Rattle.run_reports.specs.declared.report.Report.{Report}
 use Rattle.run_reports.specs.declared.report.RunError.{RunError}
-use Rattle.journalled_fabric.specs.FabricState.{FabricState, IsKept}
+use Rattle.locked_fabric.specs.FabricState.{FabricState, IsKept}
 use Rattle.machine_types.specs.declared.config.Config.{Config}
 use Rattle.machine_model.specs.Events.{after_events}
 use Rattle.machine_model.specs.LawfulLog.{IsLawfulLog}

@@ -4,7 +4,7 @@ use Rattle.std.specs.List.{All}
 use Rattle.coherent_machine.specs.Machine.{IsReached, Replayed, replayed_from}
 use Rattle.elf_loader.specs.Image.{Initial}
 use Rattle.run_reports.specs.declared.report.Report.{Report}
-use Rattle.journalled_fabric.specs.FabricState.{AreMoves}
+use Rattle.locked_fabric.specs.FabricState.{AreMoves}
 use Rattle.machine_types.specs.declared.config.Config.{Config}
 use Rattle.machine_model.specs.Events.{after_events}
 use Rattle.machine_model.specs.LawfulLog.{IsLawfulLog}

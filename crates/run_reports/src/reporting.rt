@@ -1,13 +1,13 @@
 //! The report of a run, from what its fabric and its shares are in the end.
 
 ghost use Rattle.std.specs.Prelude.{◌≡◌, ◌≢◌, ◌≤◌, Err, IfErr, IfOk, length, map, sum};
-ghost use Rattle.journalled_fabric.specs.FabricState.{IsKept};
+ghost use Rattle.locked_fabric.specs.FabricState.{IsKept};
 ghost use Rattle.run_reports.specs.Replays.{IsRun};
 
 use crate::common::Common;
 use crate::report::{Report, RunError};
 use crate::same::is_of;
-use journalled_fabric::{Fabric, Share};
+use locked_fabric::{Fabric, Share};
 use std::sync::ledger::Ledger;
 
 /// What the run leaves, where the fabric is of the image and configuration that it began with; `Mismatch`, where it is

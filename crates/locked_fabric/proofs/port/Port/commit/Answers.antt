@@ -1,7 +1,7 @@
 use Rattle.std.proofs.Common.{◌≡◌, ap, rules, subst}
 use Rattle.std.proofs.lemmas.Result.{on_ok_weaker}
 use Rattle.machine_model.specs.Views.{State}
-use Rattle.journalled_fabric.specs.FabricState.{FabricState}
+use Rattle.locked_fabric.specs.FabricState.{FabricState}
 use Rattle.locked_fabric.proofs.port.Port.commit.Goals as goal
 
 pub returns-clause-answers : goal.returns-clause-answers

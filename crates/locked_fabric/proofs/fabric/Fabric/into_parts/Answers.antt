@@ -1,6 +1,6 @@
 use Rattle.std.proofs.Common.{arith, rules}
 use Rattle.std.proofs.lemmas.Grind.{common_steps}
-use Rattle.journalled_fabric.proofs.fabric.Fabric.into_parts.Goals as goal
+use Rattle.locked_fabric.proofs.fabric.Fabric.into_parts.Goals as goal
 
 pub returns-clause-machine : goal.returns-clause-machine
 returns-clause-machine g c = search rules

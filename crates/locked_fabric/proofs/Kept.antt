@@ -9,7 +9,7 @@ use Rattle.machine_model.specs.LawfulLog.{IsLawfulLog}
 use Rattle.machine_model.specs.Laws.{ChangesAreCounted, KeepsImageAndConfig}
 use Rattle.machine_model.specs.Views.{State, opening}
 use Rattle.coherent_machine.specs.Machine.{KeepsHeadline}
-use Rattle.journalled_fabric.specs.FabricState.{AreMoves, FabricState, IsKept, IsMove, IsReplay, journalled, reset_of}
+use Rattle.locked_fabric.specs.FabricState.{AreMoves, FabricState, IsKept, IsMove, IsReplay, journalled, reset_of}
 
 -- an event behind a list of events happens where the list leads
 one_more : (s : State) (events : List Event) (e : Event) → after_events s (events ++ e ∷ []) ≡ happens (after_events s events) e

@@ -1,8 +1,8 @@
 use Rattle.std.proofs.Common.{◌≡◌, Err, refl, rules}
 use Rattle.coherent_machine.specs.Adopting.{local_of}
-use Rattle.journalled_fabric.specs.FabricState.{FabricState}
-use Rattle.journalled_fabric.proofs.Kept.{kept_moved}
-use Rattle.journalled_fabric.proofs.fabric.Fabric.commit.Goals as goal
+use Rattle.locked_fabric.specs.FabricState.{FabricState}
+use Rattle.locked_fabric.proofs.Kept.{kept_moved}
+use Rattle.locked_fabric.proofs.fabric.Fabric.commit.Goals as goal
 
 pub invariant_of-self-2 : goal.invariant_of-self-2
 invariant_of-self-2 g c =

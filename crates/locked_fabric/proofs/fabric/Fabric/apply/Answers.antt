@@ -1,9 +1,9 @@
 use Rattle.std.proofs.Common.{rules, ◌∙◌, ap, sym}
 use Rattle.machine_model.specs.Views.{State}
-use Rattle.journalled_fabric.specs.FabricState.{FabricState}
-use Rattle.journalled_fabric.proofs.Answering.{answered_moved, answered_still, moves, still}
-use Rattle.journalled_fabric.proofs.Kept.{kept_moved, kept_still}
-use Rattle.journalled_fabric.proofs.fabric.Fabric.apply.Goals as goal
+use Rattle.locked_fabric.specs.FabricState.{FabricState}
+use Rattle.locked_fabric.proofs.Answering.{answered_moved, answered_still, moves, still}
+use Rattle.locked_fabric.proofs.Kept.{kept_moved, kept_still}
+use Rattle.locked_fabric.proofs.fabric.Fabric.apply.Goals as goal
 
 pub invariant_of-self-then-moved : goal.invariant_of-self-then-moved
 invariant_of-self-then-moved g c =

@@ -2,7 +2,7 @@
 
 ghost use Rattle.std.specs.Prelude.{◌≡◌, ◌≢◌, ◌+◌, ◌↔◌, [], length, replicate, sum, Err, IfOk, OnOk, OnErr};
 ghost use Rattle.coherent_machine.specs.Adopting.{IsCurrent, local_of};
-ghost use Rattle.journalled_fabric.specs.FabricState.{Answered, IsKept, journalled, opened};
+ghost use Rattle.locked_fabric.specs.FabricState.{Answered, IsKept, journalled, opened};
 ghost use Rattle.machine_model.specs.Events.{Verdict, happens, verdict};
 ghost use Rattle.machine_model.specs.Laws.{IsHeadline, KeepsImageAndConfig};
 
@@ -44,7 +44,7 @@ impl<L: Ledger> Drop for Fabric<L> {
 
 impl<L: Ledger> Model for Fabric<L> {
     ghost use Rattle.std.specs.Prelude.{◌≡◌, ◌≤◌, [], vec_capacity};
-    ghost use Rattle.journalled_fabric.specs.FabricState.{FabricState, IsKept};
+    ghost use Rattle.locked_fabric.specs.FabricState.{FabricState, IsKept};
     ghost use Rattle.std.specs.Coded.{codes};
     ghost use Rattle.node_plans.specs.Codes.{cache_coded};
 

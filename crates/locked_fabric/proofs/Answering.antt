@@ -10,7 +10,7 @@ use Rattle.machine_model.specs.Views.{State}
 use Rattle.machine_parts.specs.declared.errors.ApplyError.{ApplyError}
 use Rattle.machine_parts.specs.declared.errors.ApplyError.TheVariants.{NoMemory}
 use Rattle.machine_parts.specs.Applying.{Answers}
-use Rattle.journalled_fabric.specs.FabricState.{FabricState, Answered, Does, journalled}
+use Rattle.locked_fabric.specs.FabricState.{FabricState, Answered, Does, journalled}
 
 -- where the number of changes stays, the machine does
 pub still : ChangesAreCounted → (old : State) (e : Event) (o : Outcome) (new : State) → Answers (verdict old e) old (Ok o) new → new.views.changes ≡ old.views.changes → new ≡ old
