@@ -1,1 +1,11 @@
+pub mod Dealt
+pub mod Fresh
+pub mod Joining
+pub mod Leading
 pub mod Limit
+pub mod Pace
+pub mod Reported
+pub mod Round
+pub mod Sets
+pub mod Telling
+pub mod Wanting

@@ -3,9 +3,9 @@ use Rattle.std.proofs.Common.{ℕ, ◌≤◌, List, [], ◌∷◌, arith, map, r
 use Rattle.std.proofs.lemmas.List.Elements.{All-cons, All-head, All-nil, All-rest}
 use Rattle.std.proofs.lemmas.List.Sums.{sum_by-cons}
 use Rattle.std.specs.List.{All}
-use Rattle.fabric_workers.specs.Workers.{HandsBack}
-use Rattle.run_reports.specs.declared.common.Common.{Common}
-use Rattle.fabric_workers.specs.declared.worker.Done.{Done}
+use Rattle.host_threads.specs.Workers.{HandsBack}
+use Rattle.host_threads.specs.declared.common.Common.{Common}
+use Rattle.host_threads.specs.declared.worker.Done.{Done}
 use Rattle.progress_board.proofs.Below.{all_below_limit, few_below}
 use Rattle.progress_board.specs.Rule.{DrewBelow, below}
 use Rattle.progress_board.specs.Seat.{IsSeatOf, view}

@@ -1,1 +1,9 @@
+pub mod Asked
+pub mod Due
+pub mod Errors
 pub mod Faults
+pub mod Pace
+pub mod Replays
+pub mod Route
+pub mod Telling
+pub mod Workers

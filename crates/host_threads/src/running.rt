@@ -3,19 +3,24 @@
 ghost use Rattle.std.specs.Prelude.{◌≡◌, ◌≢◌, ◌↔◌, ◌⊎◌, ◌≤◌, Err, IfErr, IfOk, None, length, map, sum, vec_len};
 ghost use Rattle.std.specs.List.{All};
 ghost use Rattle.coherent_machine.specs.Machine.{IsReached};
-ghost use Rattle.fabric_workers.specs.Workers.{common_of};
+ghost use Rattle.host_threads.specs.Workers.{common_of};
 ghost use Rattle.host_threads.specs.Faults.{IsFirstFault, first_fault};
-ghost use Rattle.run_reports.specs.Replays.{IsOf, IsRun, IsWithinLimit, JournalMoves, JournalReplays, end_of_journal};
+ghost use Rattle.host_threads.specs.Replays.{IsOf, IsRun, IsWithinLimit, JournalMoves, JournalReplays, end_of_journal};
 ghost use Rattle.machine_model.specs.LawfulLog.{IsLawfulLog};
 ghost use Rattle.machine_model.specs.Laws.{IsHeadline};
 ghost use Rattle.progress_board.specs.Seat.{AreFresh, IsSeatOf, harts_of};
 
+use crate::common::{Common, shared};
+use crate::crew::{run_all, workers};
+use crate::gate::Gate;
+use crate::report::{Report, RunError};
+use crate::reporting::report_of;
+use crate::rounds::Rounds;
+use crate::worker::{Done, Worker};
 use elf_loader::Image;
-use fabric_workers::{Done, Gate, Rounds, Worker, run_all, workers};
 use locked_fabric::{Fabric, Share, Turn};
 use machine_types::Config;
 use progress_board::Seat;
-use run_reports::{Common, Report, RunError, report_of, shared};
 use std::alloc::{AllocError, Global};
 use std::marker::Brand;
 use std::sync::ledger::{Blank, Ledger};

@@ -10,8 +10,8 @@ use Rattle.command_files.specs.declared.fault.Fault.TheVariants.{BadEvent, Canno
 use Rattle.command_files.specs.declared.fault.Fault.{Fault}
 use Rattle.command_settings.specs.declared.wanted.Run.{Run}
 use Rattle.elf_loader.specs.Image.{Initial}
-use Rattle.run_reports.specs.declared.report.RunError.{RunError}
-use Rattle.run_reports.specs.declared.report.RunError.TheVariants as threads
+use Rattle.host_threads.specs.declared.report.RunError.{RunError}
+use Rattle.host_threads.specs.declared.report.RunError.TheVariants as threads
 use Rattle.machine_model.specs.Views.{State, opening}
 use Rattle.std.specs.Prelude.{◌≡◌, ◌≤◌, ℕ, List, Option, length}
 use Rattle.text_fields.specs.Writing.{Begins}

@@ -3,7 +3,7 @@ use Rattle.std.proofs.lemmas.Grind.{common_steps}
 use Rattle.std.proofs.lemmas.List.Elements.{All-replicate}
 use Rattle.std.specs.Prelude.{IfOk}
 use Rattle.elf_loader.specs.Image.{Initial}
-use Rattle.run_reports.specs.Replays.{IsRun}
+use Rattle.host_threads.specs.Replays.{IsRun}
 use Rattle.host_threads.proofs.running.run_counted.Goals as goal
 
 pub workers-requires-clause-opening : goal.workers-requires-clause-opening

@@ -1,4 +1,4 @@
-use Rattle.run_reports.proofs.Reported.{told}
+use Rattle.host_threads.proofs.Reported.{told}
 use Rattle.host_threads.proofs.running.run_with.Goals as goal
 
 pub returns-clause-report : goal.returns-clause-report

@@ -4,7 +4,7 @@ use Rattle.command_files.specs.Sizes.{IsInside, config_of, config_named, script_
 use Rattle.command_files.specs.Files.{HoldsImage}
 use Rattle.command_files.specs.Contents.{Contents, HoldsBytes}
 use Rattle.run_command.specs.Running.{ComesBeforeJournal, IsJournalled, IsRunFault}
-use Rattle.run_reports.specs.Replays.{end_of_journal}
+use Rattle.host_threads.specs.Replays.{end_of_journal}
 use Rattle.command_files.specs.declared.fault.Fault.{Fault}
 use Rattle.command_files.specs.declared.fault.Fault.TheVariants.{CannotMake, CannotWrite, OutOfMemory}
 use Rattle.command_settings.specs.declared.wanted.Run.{Run}

@@ -1,5 +1,0 @@
-use Rattle.std.proofs.Common.{rules}
-use Rattle.fabric_workers.proofs.worker.Worker.halt.Goals as goal
-
-pub returns-clause-bit : goal.returns-clause-bit
-returns-clause-bit g c = search rules

@@ -1,0 +1,136 @@
+use Rattle.std.proofs.Common.{◌≡◌, ◌∙◌, ap, false, not, refl, subst, sym, ℕ, None}
+use Rattle.std.specs.Prelude.{◌==◌}
+use Rattle.host_threads.proofs.Pace.{paced_back, paced_lent, paced_took}
+use Rattle.host_threads.proofs.Telling.{drawn_untold, held_counts, is_picked, lent_untold, refused_counts, reports, same_of, seat_untold, stopped, taken_counts, tells_then, unchanged, untold_then, went_on}
+use Rattle.host_threads.specs.Telling.{CountsTo, Tells}
+use Rattle.locked_fabric.specs.Port.{Left, seat_of, seen_in, share_of}
+use Rattle.locked_fabric.specs.declared.taken.Taken.TheVariants.{Nothing, HeldBack, Tried}
+use Rattle.progress_board.specs.Seat.{view}
+use Rattle.progress_board.specs.declared.view.View.{View}
+use Rattle.host_threads.proofs.worker.Worker.take_turn.Goals as goal
+
+pub invariant_of-self-clause-paced : goal.invariant_of-self-clause-paced
+invariant_of-self-clause-paced g c =
+    paced_lent c.args.self.now.common.now.limit c.args.self.now.port c.seat.result.now c.halted.new.seat c.seat.ensures.now (ap (λ (v : View). v.drawn) c.halted.ensures.seen) c.args.self.now.paced
+
+pub invariant_of-self-2 : goal.invariant_of-self-2
+invariant_of-self-2 g c =
+    let limit = c.args.self.now.common.now.limit in
+    let paced = paced_lent limit c.args.self.now.port c.seat.result.now c.halted.new.seat c.seat.ensures.now (ap (λ (v : View). v.drawn) c.halted.ensures.seen) c.args.self.now.paced in
+    let took = c.take.ensures.takes in
+    let takes = took.2.4 in
+    let untold = untold_then (view (seat_of c.args.self.now.port)) (view c.halted.new.seat) (view (seat_of c.take.new.self))
+    (lent_untold c.seat.result.now (seat_of c.args.self.now.port) c.halted.new.seat c.halted.result c.seat.ensures.now c.halted.ensures.seen)
+    (drawn_untold limit c.take.result (view c.halted.new.seat) (view (seat_of c.take.new.self)) takes.draws) in
+    let picked = is_picked (took.2.2.hart ≡ c.args.self.now.turn.hart) c.take.result took.2.0.machine takes.pick in
+    record {
+      own = (untold.hart ∙ c.args.self.now.own.0, same_of took.2.3 (λ turn. turn.hart) ∙ picked ∙ c.args.self.now.own.1);
+      seated = c.take.ensures.seat;
+      paced = paced_took limit c.take.result took.2.0 took.0 (view c.halted.new.seat) (view (seat_of c.take.new.self)) (share_of c.args.self.now.port) (share_of c.take.new.self) takes.leaves takes.draws takes.counts paced;
+    }
+
+pub go_alone-came-requires : goal.go_alone-came-requires
+go_alone-came-requires g c =
+    let limit = c.args.self.now.common.now.limit in
+    let paced = paced_lent limit c.args.self.now.port c.seat.result.now c.halted.new.seat c.seat.ensures.now (ap (λ (v : View). v.drawn) c.halted.ensures.seen) c.args.self.now.paced in
+    let took = c.in-HeldBack.ensures.takes in
+    let takes = took.2.4 in
+    paced_back limit c.in-HeldBack.number took.2.0 took.0 (view c.halted.new.seat) (view (seat_of c.take.new.self)) (share_of c.args.self.now.port) (share_of c.take.new.self) takes.draws takes.leaves takes.counts paced
+
+pub returns-in-Nothing-clause-goes : goal.returns-in-Nothing-clause-goes
+returns-in-Nothing-clause-goes g c =
+    let took = c.in-Nothing.ensures.takes in
+    let takes = took.2.4 in
+    let count = share_of c.args.self.now.port in
+    let untold = untold_then (view (seat_of c.args.self.now.port)) (view c.halted.new.seat) (view (seat_of c.take.new.self))
+    (lent_untold c.seat.result.now (seat_of c.args.self.now.port) c.halted.new.seat c.halted.result c.seat.ensures.now c.halted.ensures.seen)
+    (drawn_untold c.args.self.now.common.now.limit Nothing (view c.halted.new.seat) (view (seat_of c.take.new.self)) takes.draws) in
+    let mine = takes.pick ∙ c.args.self.now.own.1 in
+    let saw = same_of took.2.3 (λ turn. turn.seen) in
+    let same = held_counts took.2.0 took.0 count (share_of c.take.new.self) takes.leaves takes.counts in
+    λ _. (
+      took.0,
+      took.1,
+      reports c.args.self.now.hart took.2.2.hart count (share_of c.take.new.self) (share_of c.rest.new.self.port) false c.take.new.turn.seen (view (seat_of c.args.self.now.port)) (view (seat_of c.take.new.self)) (view (seat_of c.rest.new.self.port)) took.0
+          (taken_counts Nothing took.2.0 took.0 count (share_of c.take.new.self) takes.leaves takes.counts) c.rest.ensures.counts (unchanged count (share_of c.take.new.self) same) saw mine untold c.rest.ensures.tells,
+    )
+
+pub returns-in-HeldBack-clause-goes : goal.returns-in-HeldBack-clause-goes
+returns-in-HeldBack-clause-goes g c = λ on.
+    let took = c.in-HeldBack.ensures.takes in
+    let takes = took.2.4 in
+    let count = share_of c.args.self.now.port in
+    let first = view (seat_of c.args.self.now.port) in
+    let drawn = view (seat_of c.take.new.self) in
+    let untold = untold_then first (view c.halted.new.seat) drawn
+    (lent_untold c.seat.result.now (seat_of c.args.self.now.port) c.halted.new.seat c.halted.result c.seat.ensures.now c.halted.ensures.seen)
+    (drawn_untold c.args.self.now.common.now.limit (HeldBack c.in-HeldBack.number c.in-HeldBack.event) (view c.halted.new.seat) drawn takes.draws) in
+    let same = held_counts took.2.0 took.0 count (share_of c.take.new.self) takes.leaves takes.counts in
+    let port = c.go_alone-came.new.self.port in
+    let seen = c.go_alone-came.new.self.turn.seen in
+    let back = untold_then first drawn (view (seat_of port)) untold (seat_untold (seat_of c.take.new.self) (seat_of port) c.go_alone-came.ensures.seat) in
+    let changed = not (share_of port == c.counted-before.result) in
+    let last = view (seat_of c.go_on.new.self.port) in
+    let left = went_on (Left (λ left. CountsTo (share_of c.take.new.self) (share_of port) left × (seen ≡ seen_in left.machine.trace c.args.self.now.hart))) c.go_alone-came.result c.go_on.result c.go_on.ensures.goes c.go_alone-came.ensures.came on in
+    let tells = went_on (Tells changed seen (view (seat_of port)) last) c.go_alone-came.result c.go_on.result c.go_on.ensures.goes c.go_on.ensures.tells on in (
+      left.0,
+      left.1,
+      reports c.args.self.now.hart c.args.self.now.hart count (share_of port) (share_of c.go_on.new.self.port) changed seen first (view (seat_of port)) last left.0
+          (subst (λ (n : ℕ). CountsTo n (share_of port) left.0) same left.2.0) c.go_on.ensures.counts (ap (λ (n : ℕ). not (share_of port == n)) c.counted-before.ensures) left.2.1 refl back tells,
+    )
+
+pub returns-in-Tried-clause-goes : goal.returns-in-Tried-clause-goes
+returns-in-Tried-clause-goes g c = λ on.
+    let took = c.in-Tried.ensures.takes in
+    let takes = took.2.4 in
+    let count = share_of c.args.self.now.port in
+    let first = view (seat_of c.args.self.now.port) in
+    let drawn = view (seat_of c.take.new.self) in
+    let untold = untold_then first (view c.halted.new.seat) drawn
+    (lent_untold c.seat.result.now (seat_of c.args.self.now.port) c.halted.new.seat c.halted.result c.seat.ensures.now c.halted.ensures.seen)
+    (drawn_untold c.args.self.now.common.now.limit (Tried c.in-Tried.number c.in-Tried.event c.in-Tried.came) (view c.halted.new.seat) drawn takes.draws) in
+    let mine = takes.pick ∙ c.args.self.now.own.1 in
+    let saw = same_of took.2.3 (λ turn. turn.seen) in
+    let counted = share_of c.take.new.self in
+    let changed = not (counted == c.counted-before.result) in
+    let last = view (seat_of c.go_on-in-Tried.new.self.port) in
+    let tells = went_on (Tells changed c.take.new.turn.seen drawn last) c.in-Tried.came c.go_on-in-Tried.result c.go_on-in-Tried.ensures.goes c.go_on-in-Tried.ensures.tells on in (
+      took.0,
+      took.1,
+      reports c.args.self.now.hart took.2.2.hart count counted (share_of c.go_on-in-Tried.new.self.port) changed c.take.new.turn.seen first drawn last took.0
+          (taken_counts (Tried c.in-Tried.number c.in-Tried.event c.in-Tried.came) took.2.0 took.0 count counted takes.leaves takes.counts) c.go_on-in-Tried.ensures.counts (ap (λ (n : ℕ). not (counted == n)) c.counted-before.ensures) saw mine untold tells,
+    )
+
+pub returns-in-Tried-clause-ends : goal.returns-in-Tried-clause-ends
+returns-in-Tried-clause-ends g c = λ off.
+    let took = c.in-Tried.ensures.takes in
+    let takes = took.2.4 in
+    let count = share_of c.args.self.now.port in
+    let first = view (seat_of c.args.self.now.port) in
+    let drawn = view (seat_of c.take.new.self) in
+    let untold = untold_then first (view c.halted.new.seat) drawn
+    (lent_untold c.seat.result.now (seat_of c.args.self.now.port) c.halted.new.seat c.halted.result c.seat.ensures.now c.halted.ensures.seen)
+    (drawn_untold c.args.self.now.common.now.limit (Tried c.in-Tried.number c.in-Tried.event c.in-Tried.came) (view c.halted.new.seat) drawn takes.draws) in
+    let counted = share_of c.take.new.self in
+    let last = view (seat_of c.go_on-in-Tried.new.self.port) in (
+      c.go_on-in-Tried.ensures.counts ∙ stopped (counted ≡ count) c.in-Tried.came c.go_on-in-Tried.result c.go_on-in-Tried.ensures.goes (refused_counts c.in-Tried.event c.in-Tried.came took.2.0 took.0 count counted takes.leaves takes.counts) off,
+      tells_then false None first drawn last untold (stopped (Tells false None drawn last) c.in-Tried.came c.go_on-in-Tried.result c.go_on-in-Tried.ensures.goes c.go_on-in-Tried.ensures.silent off),
+    )
+
+pub returns-in-HeldBack-clause-ends : goal.returns-in-HeldBack-clause-ends
+returns-in-HeldBack-clause-ends g c = λ off.
+    let took = c.in-HeldBack.ensures.takes in
+    let takes = took.2.4 in
+    let count = share_of c.args.self.now.port in
+    let first = view (seat_of c.args.self.now.port) in
+    let drawn = view (seat_of c.take.new.self) in
+    let untold = untold_then first (view c.halted.new.seat) drawn
+    (lent_untold c.seat.result.now (seat_of c.args.self.now.port) c.halted.new.seat c.halted.result c.seat.ensures.now c.halted.ensures.seen)
+    (drawn_untold c.args.self.now.common.now.limit (HeldBack c.in-HeldBack.number c.in-HeldBack.event) (view c.halted.new.seat) drawn takes.draws) in
+    let same = held_counts took.2.0 took.0 count (share_of c.take.new.self) takes.leaves takes.counts in
+    let port = c.go_alone-came.new.self.port in
+    let back = untold_then first drawn (view (seat_of port)) untold (seat_untold (seat_of c.take.new.self) (seat_of port) c.go_alone-came.ensures.seat) in
+    let last = view (seat_of c.go_on.new.self.port) in (
+      c.go_on.ensures.counts ∙ (stopped (share_of port ≡ share_of c.take.new.self) c.go_alone-came.result c.go_on.result c.go_on.ensures.goes c.go_alone-came.ensures.err off ∙ same),
+      tells_then false None first (view (seat_of port)) last back (stopped (Tells false None (view (seat_of port)) last) c.go_alone-came.result c.go_on.result c.go_on.ensures.goes c.go_on.ensures.silent off),
+    )
