@@ -6,7 +6,7 @@ ghost use Rattle.memory_model.specs.Order as orders;
 ghost use Rattle.elf_loader.specs.Image.{byte_at};
 ghost use Rattle.memory_model.specs.Legal as legal;
 ghost use Rattle.memory_model.specs.Rules as rules;
-ghost use Rattle.order_bounds.specs.Rules.{rule_of};
+ghost use Rattle.rvwmo_order.specs.Rules.{rule_of};
 ghost use Rattle.rvwmo_order.specs.Scans as scans;
 ghost use Rattle.rvwmo_order.specs.Scans.{all_rules, first_broken_pair, first_broken_rule, judged};
 

@@ -9,7 +9,7 @@ ghost use Rattle.memory_model.specs.Dependencies.{between};
 ghost use Rattle.memory_model.specs.Operations as operations;
 ghost use Rattle.memory_model.specs.Operations.{addresses_of};
 ghost use Rattle.rvwmo_order.specs.Scans as scans;
-ghost use Rattle.order_bounds.specs.Rules.{rule_of};
+ghost use Rattle.rvwmo_order.specs.Rules.{rule_of};
 
 use crate::between::{are_paired, has_store_between, is_fenced};
 use crate::dependencies::{

@@ -9,7 +9,7 @@ use Rattle.memory_model.specs.declared.operation.Operation.{Operation}
 use Rattle.memory_model.specs.Dependencies.{holds, uses_in, with_flags}
 use Rattle.memory_model.specs.Items.{Item}
 use Rattle.rvwmo_order.specs.Marks.{asked_before, flagged, flags_before, flags_from}
-use Rattle.order_bounds.specs.declared.rule.Rule.{Rule}
+use Rattle.rvwmo_order.specs.declared.rule.Rule.{Rule}
 
 one_back : (stretch : List Item) (left : ℕ) (m : Item) → 0 < left → slice_get stretch (left - 1) ≡ Some m → drop (left - 1) stretch ≡ m ∷ drop left stretch
 one_back stretch left m h e =

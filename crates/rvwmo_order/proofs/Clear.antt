@@ -15,14 +15,14 @@ use Rattle.memory_model.specs.Rules.{asked_by}
 use Rattle.memory_model.proofs.Forms.{place_head, place_tail, same-self, same-swap}
 use Rattle.memory_model.proofs.Lists.{Member, Each-at, Each-from}
 use Rattle.memory_model.proofs.Named.{EachOnce}
-use Rattle.order_bounds.specs.Bounds.{BoundsEach, RanksEach, bound_of, greatest_of, unbounded, weight_of}
-use Rattle.ranked_orders.specs.Ranks.{AreDistinctOperations}
-use Rattle.ranked_orders.proofs.Ranks.{member_at, position_at}
-use Rattle.order_bounds.specs.Rules.{rule_of}
+use Rattle.rvwmo_order.specs.Bounds.{BoundsEach, RanksEach, bound_of, greatest_of, unbounded, weight_of}
+use Rattle.rvwmo_order.specs.Ranks.{AreDistinctOperations}
+use Rattle.rvwmo_order.proofs.Ranks.{member_at, position_at}
+use Rattle.rvwmo_order.specs.Rules.{rule_of}
 use Rattle.rvwmo_order.specs.Scans.{first_broken_rule, first_out_of_order, found_or, ruled_or}
-use Rattle.order_bounds.specs.declared.rows.Row.{Row}
-use Rattle.order_bounds.specs.declared.rule.Rule.{Rule}
-use Rattle.order_bounds.specs.declared.rule.Rule.TheVariants.{OverlappingStore, SameByteLoads, AtomicSource, Fence, Acquire, Release, Annotations, Pair, Address, Data, Control, DependentStore, DependentAddress}
+use Rattle.rvwmo_order.specs.declared.bounds.rows.Row.{Row}
+use Rattle.rvwmo_order.specs.declared.rule.Rule.{Rule}
+use Rattle.rvwmo_order.specs.declared.rule.Rule.TheVariants.{OverlappingStore, SameByteLoads, AtomicSource, Fence, Acquire, Release, Annotations, Pair, Address, Data, Control, DependentStore, DependentAddress}
 
 pub distinct_once : (order : List Operation) → EachOnce order → AreDistinctOperations order
 distinct_once [] h = tt

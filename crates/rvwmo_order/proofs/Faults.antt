@@ -20,11 +20,11 @@ use Rattle.trace_recorder.specs.History.{History}
 use Rattle.trace_recorder.specs.declared.operation.OpId.{OpId}
 use Rattle.rvwmo_order.specs.Answers.{IsSoundVerdict}
 use Rattle.rvwmo_order.specs.Codes.{code_number}
-use Rattle.order_bounds.specs.Rules.{rule_of}
+use Rattle.rvwmo_order.specs.Rules.{rule_of}
 use Rattle.rvwmo_order.specs.Scans.{all_rules, first_broken_pair, first_broken_rule, first_out_of_order, found_or, is_broken_pair, judged, ruled_or, verdict_by, wrong_load}
 use Rattle.rvwmo_order.specs.declared.verdict.Code.TheVariants.{Order}
-use Rattle.order_bounds.specs.declared.rule.Rule.{Rule}
-use Rattle.order_bounds.specs.declared.rule.Rule.TheVariants.{OverlappingStore, SameByteLoads, AtomicSource, Fence, Acquire, Release, Annotations, Pair, Address, Data, Control, DependentStore, DependentAddress}
+use Rattle.rvwmo_order.specs.declared.rule.Rule.{Rule}
+use Rattle.rvwmo_order.specs.declared.rule.Rule.TheVariants.{OverlappingStore, SameByteLoads, AtomicSource, Fence, Acquire, Release, Annotations, Pair, Address, Data, Control, DependentStore, DependentAddress}
 use Rattle.rvwmo_order.proofs.Judged.{OutOfOrder, found, out_of_order, pair}
 
 abbrev pub ruled : Rule → Operation → Operation → Rule × Operation × Operation

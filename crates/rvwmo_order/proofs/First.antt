@@ -18,9 +18,9 @@ use Rattle.memory_model.proofs.Forms.{place_head, place_tail, same-self, same-sw
 use Rattle.memory_model.proofs.Lists.{Each-weaker}
 use Rattle.memory_model.proofs.Named.{EachOnce}
 use Rattle.rvwmo_order.specs.Answers.{fault_told}
-use Rattle.order_bounds.specs.Rules.{rule_of}
+use Rattle.rvwmo_order.specs.Rules.{rule_of}
 use Rattle.rvwmo_order.specs.Scans.{all_rules, first_broken_pair, first_broken_rule, first_out_of_order, found_or, is_broken_pair, judged, ruled_or, verdict_by, wrong_load}
-use Rattle.order_bounds.specs.declared.rule.Rule.{Rule}
+use Rattle.rvwmo_order.specs.declared.rule.Rule.{Rule}
 use Rattle.rvwmo_order.proofs.Judged.{pair}
 
 -- ---- the first pair of two lists that a test finds, by the second list and then the first

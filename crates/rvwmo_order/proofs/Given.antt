@@ -25,7 +25,7 @@ use Rattle.memory_model.specs.Items.{Item, annotations_of, items_from, items_of_
 use Rattle.memory_model.specs.Rules.{items_of}
 use Rattle.memory_model.specs.Traces.{instructions, operation_at, operations_at}
 use Rattle.memory_model.proofs.Named.{operation_at-bears}
-use Rattle.order_bounds.specs.Bounds.{GivesEach, IsGiven}
+use Rattle.rvwmo_order.specs.Bounds.{GivesEach, IsGiven}
 use Rattle.rvwmo_order.proofs.Paired.{listed_lr}
 
 -- ---- bytes

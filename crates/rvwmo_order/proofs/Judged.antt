@@ -14,9 +14,9 @@ use Rattle.memory_model.specs.Rules.{asked_by, items_of, paired}
 use Rattle.memory_model.proofs.Forms.{place_head, place_tail, same-self, same-swap}
 use Rattle.memory_model.proofs.Legality.{in_order-weaker}
 use Rattle.memory_model.proofs.Lists.{Each-at, Member}
-use Rattle.order_bounds.specs.Rules.{rule_of}
+use Rattle.rvwmo_order.specs.Rules.{rule_of}
 use Rattle.rvwmo_order.specs.Scans.{all_rules, first_broken_pair, first_broken_rule, first_out_of_order, found_or, is_broken_pair, judged, ruled_or, verdict_by, wrong_load}
-use Rattle.order_bounds.specs.declared.rule.Rule.{Rule}
+use Rattle.rvwmo_order.specs.declared.rule.Rule.{Rule}
 use Rattle.rvwmo_order.specs.declared.verdict.Verdict.TheVariants.{Legal}
 
 -- ---- searching

@@ -13,16 +13,16 @@ use Rattle.memory_model.specs.declared.operation.Operation.{Operation}
 use Rattle.memory_model.specs.Dependencies.{between, has_control_dependency, has_dependent_address_between, holds, sources, uses_at, uses_in, with_flags}
 use Rattle.memory_model.specs.Items.{Item}
 use Rattle.memory_model.specs.Operations.{addresses_of, precedes, writes}
-use Rattle.order_bounds.specs.Rules.{rule_of}
+use Rattle.rvwmo_order.specs.Rules.{rule_of}
 use Rattle.rvwmo_order.specs.Marks.{IsBelow, TellsEach, is_source_among, sources_of, asked_at, asked_before, flagged, flags_before, flags_from, is_swept, is_told}
 use Rattle.memory_model.specs.Order.{same_source, source}
 use Rattle.memory_model.specs.Rules.{passes_on}
 use Rattle.trace_operations.specs.Placed.{GivesOwn, IsPlaced}
 use Rattle.rvwmo_order.proofs.Passing.{rule_12_swept}
 use Rattle.rvwmo_order.specs.Sweeps.{addressing, is_returned, passing, gives_wanted, is_written, marks_of, nothing, steering, wanted_before, wanted_from}
-use Rattle.order_bounds.specs.declared.rule.Rule.{Rule}
-use Rattle.order_bounds.specs.declared.rule.Rule.TheVariants.{OverlappingStore, SameByteLoads, AtomicSource, Fence, Acquire, Release, Annotations, Pair, Address, Data, Control, DependentStore, DependentAddress}
-use Rattle.order_bounds.proofs.Flags.{length-with_flags, no_flag}
+use Rattle.rvwmo_order.specs.declared.rule.Rule.{Rule}
+use Rattle.rvwmo_order.specs.declared.rule.Rule.TheVariants.{OverlappingStore, SameByteLoads, AtomicSource, Fence, Acquire, Release, Annotations, Pair, Address, Data, Control, DependentStore, DependentAddress}
+use Rattle.rvwmo_order.proofs.Flags.{length-with_flags, no_flag}
 use Rattle.rvwmo_order.proofs.Sweeps.{address_swept, any_same, control_swept, data_swept, dependent_address_swept, flag_at, mark_or}
 
 -- ---- tests of lists

@@ -12,11 +12,11 @@ use Rattle.memory_model.specs.Operations.{is_lr, is_sc, precedes, same}
 use Rattle.memory_model.specs.Order.{position_in}
 use Rattle.memory_model.specs.Rules.{is_lr_or_sc, items_of, paired}
 use Rattle.memory_model.proofs.Forms.{place_head, place_tail}
-use Rattle.order_bounds.specs.Bounds.{GivesEach, IsGiven}
-use Rattle.ranked_orders.specs.Ranks.{AreDistinctOperations}
+use Rattle.rvwmo_order.specs.Bounds.{GivesEach, IsGiven}
+use Rattle.rvwmo_order.specs.Ranks.{AreDistinctOperations}
 use Rattle.trace_operations.specs.Placed.{IsPlaced}
 use Rattle.rvwmo_order.specs.Scans.{is_broken_pair}
-use Rattle.order_bounds.proofs.Filled.{placed_there}
+use Rattle.rvwmo_order.proofs.Filled.{placed_there}
 
 any_filtered : {X : Type 0} (p q : X → Bool) (xs : List X) (k : ℕ) (m : X) → slice_get xs k ≡ Some m → q m ≡ true → p m ≡ true → list_any p (filter q xs) ≡ true
 any_filtered p q [] k m e f g = absurd (none-some m e)

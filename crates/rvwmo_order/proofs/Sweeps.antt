@@ -14,7 +14,7 @@ use Rattle.memory_model.specs.Operations.{precedes}
 use Rattle.trace_operations.specs.Placed.{IsPlaced}
 use Rattle.rvwmo_order.specs.Sweeps.{addressing, carries, gives_wanted, is_written, marks_of, nothing, steering, wanted_before, wanted_from}
 use Rattle.trace_operations.proofs.Placed.{between_cut}
-use Rattle.order_bounds.proofs.Flags.{length-held_first, length-with_flags, no_flag}
+use Rattle.rvwmo_order.proofs.Flags.{length-held_first, length-with_flags, no_flag}
 
 -- ---- flags
 

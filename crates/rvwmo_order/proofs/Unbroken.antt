@@ -9,11 +9,11 @@ use Rattle.memory_model.specs.declared.operation.Operation.{Operation}
 use Rattle.memory_model.specs.Items.{Item}
 use Rattle.memory_model.specs.Operations.{precedes}
 use Rattle.memory_model.specs.Rules.{asked_by, items_of}
-use Rattle.order_bounds.specs.Rules.{rule_of}
+use Rattle.rvwmo_order.specs.Rules.{rule_of}
 use Rattle.rvwmo_order.specs.Lows.{AreLows}
 use Rattle.rvwmo_order.specs.Scans.{all_rules, first_broken_rule, first_out_of_order, found_or, ruled_or}
-use Rattle.order_bounds.specs.declared.rule.Rule.{Rule}
-use Rattle.order_bounds.specs.declared.rule.Rule.TheVariants.{OverlappingStore, SameByteLoads, AtomicSource, Fence, Acquire, Release, Annotations, Pair, Address, Data, Control, DependentStore, DependentAddress}
+use Rattle.rvwmo_order.specs.declared.rule.Rule.{Rule}
+use Rattle.rvwmo_order.specs.declared.rule.Rule.TheVariants.{OverlappingStore, SameByteLoads, AtomicSource, Fence, Acquire, Release, Annotations, Pair, Address, Data, Control, DependentStore, DependentAddress}
 use Rattle.rvwmo_order.proofs.Clear.{at_drop, nothing_left}
 use Rattle.rvwmo_order.proofs.Lowest.{none_behind}
 

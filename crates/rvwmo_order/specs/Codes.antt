@@ -1,6 +1,6 @@
 -- The numbers of the checker's codes and errors.
 use Rattle.std.specs.Prelude.{ℕ}
-use Rattle.order_bounds.specs.Rules.{rule_of}
+use Rattle.rvwmo_order.specs.Rules.{rule_of}
 use Rattle.rvwmo_order.specs.declared.error.CheckError.{CheckError}
 use Rattle.rvwmo_order.specs.declared.error.CheckError.TheVariants.{NotAnOrder, NotARun, TooLong, NoMemory}
 use Rattle.rvwmo_order.specs.declared.verdict.Code.{Code}

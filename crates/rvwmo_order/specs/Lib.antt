@@ -1,6 +1,13 @@
-pub mod Codes
-pub mod Scans
 pub mod Answers
+pub mod Bounds
+pub mod Carried
+pub mod Codes
 pub mod Lows
-pub mod Sweeps
 pub mod Marks
+pub mod Passed
+pub mod Ranks
+pub mod Rules
+pub mod Scans
+pub mod Sourcing
+pub mod Sweeps
+pub mod Touched

@@ -8,10 +8,10 @@ use Rattle.memory_model.specs.Dependencies.{holds, sources, uses_in, with_flags}
 use Rattle.memory_model.specs.Items.{Item}
 use Rattle.memory_model.specs.Operations.{addresses_of, precedes, reads, writes}
 use Rattle.memory_model.specs.Order.{same_source, source}
-use Rattle.order_bounds.specs.Rules.{rule_of}
+use Rattle.rvwmo_order.specs.Rules.{rule_of}
 use Rattle.rvwmo_order.specs.Sweeps.{addressing, steering}
-use Rattle.order_bounds.specs.declared.rule.Rule.{Rule}
-use Rattle.order_bounds.specs.declared.rule.Rule.TheVariants.{Address, Data, Control, DependentStore, DependentAddress}
+use Rattle.rvwmo_order.specs.declared.rule.Rule.{Rule}
+use Rattle.rvwmo_order.specs.declared.rule.Rule.TheVariants.{Address, Data, Control, DependentStore, DependentAddress}
 
 -- the rules that a sweep tells
 abbrev pub is_told : Rule → Bool

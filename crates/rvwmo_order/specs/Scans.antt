@@ -10,9 +10,9 @@ use Rattle.memory_model.specs.Operations.{touches}
 use Rattle.memory_model.specs.Order.{same_source, source}
 use Rattle.memory_model.specs.Rules.{asked_by, has_store_to, items_of, paired}
 use Rattle.memory_model.specs.Verdict.{name_of}
-use Rattle.order_bounds.specs.Rules.{rule_of}
-use Rattle.order_bounds.specs.declared.rule.Rule.{Rule}
-use Rattle.order_bounds.specs.declared.rule.Rule.TheVariants.{OverlappingStore, SameByteLoads, AtomicSource, Fence, Acquire, Release, Annotations, Pair, Address, Data, Control, DependentStore, DependentAddress}
+use Rattle.rvwmo_order.specs.Rules.{rule_of}
+use Rattle.rvwmo_order.specs.declared.rule.Rule.{Rule}
+use Rattle.rvwmo_order.specs.declared.rule.Rule.TheVariants.{OverlappingStore, SameByteLoads, AtomicSource, Fence, Acquire, Release, Annotations, Pair, Address, Data, Control, DependentStore, DependentAddress}
 use Rattle.rvwmo_order.specs.declared.verdict.Code.TheVariants.{Order, LoadValue, Atomicity}
 use Rattle.rvwmo_order.specs.declared.verdict.Verdict.{Verdict}
 use Rattle.rvwmo_order.specs.declared.verdict.Verdict.TheVariants.{Legal, Fault}

@@ -8,9 +8,9 @@ ghost use Rattle.rvwmo_order.specs.Scans.{judged};
 
 use crate::error::CheckError;
 use crate::judging::judge;
+use crate::ranking::Ranking;
 use crate::verdict::Verdict;
 use machine_types::MemoryModel;
-use ranked_orders::Ranking;
 use std::alloc::{AllocError, Global};
 use trace_operations::{Harts, are_runs, few_names, has_too_many, is_order, operations_at};
 use trace_recorder::{OpId, Trace};

@@ -2,18 +2,18 @@
 //! are few: no others can break a rule.
 ghost use Rattle.std.specs.Prelude.{◌≡◌, IfOk, None, find, true};
 ghost use Rattle.memory_model.specs.Rules as rules;
-ghost use Rattle.order_bounds.specs.Rules.{rule_of};
+ghost use Rattle.rvwmo_order.specs.Rules.{rule_of};
 ghost use Rattle.rvwmo_order.specs.Lows.{AreLows};
 ghost use Rattle.rvwmo_order.specs.Scans.{all_rules, first_broken_rule};
-ghost use Rattle.order_bounds.specs.declared.rule.Rule.{Rule as RuleValue};
+ghost use Rattle.rvwmo_order.specs.declared.rule.Rule.{Rule as RuleValue};
 
 use crate::lows::end_of_earlier;
+use crate::ranking::Ranking;
 use crate::searching::first_asked;
 use crate::sweeping::Sweep;
 use crate::verdict::RULES;
 use machine_types::MemoryModel;
 use memory_model::Operation;
-use ranked_orders::Ranking;
 use std::alloc::{AllocError, Global};
 use trace_operations::Harts;
 

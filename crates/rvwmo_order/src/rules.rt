@@ -6,16 +6,18 @@ ghost use Rattle.std.specs.List.{list_any};
 ghost use Rattle.memory_model.specs.Rules as spec;
 ghost use Rattle.memory_model.specs.Dependencies.{between};
 ghost use Rattle.memory_model.specs.Operations.{addresses_of};
-ghost use Rattle.order_bounds.specs.Bounds.{IsGiven};
+ghost use Rattle.rvwmo_order.specs.Bounds.{IsGiven};
 ghost use Rattle.rvwmo_order.specs.Scans as scans;
-ghost use Rattle.order_bounds.specs.Rules.{rule_of};
+ghost use Rattle.rvwmo_order.specs.Rules.{rule_of};
 ghost use Rattle.rvwmo_order.specs.Marks.{Tells};
 
+use crate::fencing::{fences, is_lr_or_sc};
+use crate::ranking::Ranking;
+use crate::rule::Rule;
+use crate::sources::{is_same_source, returns_from};
 use crate::sweeping::Sweep;
 use machine_types::MemoryModel;
 use memory_model::Operation;
-use order_bounds::{Rule, fences, is_lr_or_sc};
-use ranked_orders::{Ranking, is_same_source, returns_from};
 use trace_operations::Items;
 use trace_operations::accesses::{
     end_of, has_acquire, has_rcsc, has_release, is_amo, is_lr, is_sc, overlap, precedes, reads,

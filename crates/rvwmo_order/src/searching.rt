@@ -3,18 +3,19 @@
 ghost use Rattle.std.specs.Prelude.{◌≡◌, ◌<◌, ◌-◌, ◌+◌, ℕ, true, IfOk, Some, drop, find, slice_get, slice_index_or};
 ghost use Rattle.memory_model.specs.Operations as operations;
 ghost use Rattle.memory_model.specs.Rules as rules;
-ghost use Rattle.order_bounds.specs.Bounds.{GivesEach, RanksEach};
-ghost use Rattle.ranked_orders.specs.Ranks.{AreDistinctOperations};
-ghost use Rattle.order_bounds.specs.Rules.{rule_of};
+ghost use Rattle.rvwmo_order.specs.Bounds.{GivesEach, RanksEach};
+ghost use Rattle.rvwmo_order.specs.Ranks.{AreDistinctOperations};
+ghost use Rattle.rvwmo_order.specs.Rules.{rule_of};
 ghost use Rattle.rvwmo_order.specs.Marks.{Tells, TellsEach};
 ghost use Rattle.rvwmo_order.specs.Scans as scans;
 
+use crate::bounds::{Row, bound_at, rows_of};
+use crate::ranking::Ranking;
+use crate::rule::Rule;
 use crate::rules::asks;
 use crate::sweeping::Sweep;
 use machine_types::MemoryModel;
 use memory_model::Operation;
-use order_bounds::{Row, Rule, bound_at, rows_of};
-use ranked_orders::Ranking;
 use std::alloc::{AllocError, Global};
 use trace_operations::accesses::precedes;
 use trace_operations::{Harts, behind};

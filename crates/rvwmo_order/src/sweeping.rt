@@ -12,10 +12,11 @@ ghost use Rattle.rvwmo_order.specs.Marks as spec;
 ghost use Rattle.rvwmo_order.specs.Marks.{IsBelow, TellsEach};
 ghost use Rattle.trace_operations.specs.Placed.{GivesOwn};
 
+use crate::ranking::Ranking;
+use crate::rule::Rule;
+use crate::sources::is_same_source;
 use crate::uses::instr_at;
 use memory_model::Operation;
-use order_bounds::Rule;
-use ranked_orders::{Ranking, is_same_source};
 use rv32_decode::{Instr, Register};
 use rv32_exec::{address_register, destination, is_steering, other_registers, stored_register};
 use std::alloc::{AllocError, Global};

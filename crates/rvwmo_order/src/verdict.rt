@@ -2,7 +2,7 @@
 ghost use Rattle.std.specs.Prelude.{◌≡◌};
 ghost use Rattle.rvwmo_order.specs.Codes.{code_number};
 
-use order_bounds::Rule;
+use crate::rule::Rule;
 use trace_recorder::OpId;
 
 /// All rules, in the order of their numbers.

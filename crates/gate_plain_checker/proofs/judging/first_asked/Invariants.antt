@@ -1,5 +1,5 @@
 use Rattle.std.proofs.Common.{◌≡◌, length, find}
-use Rattle.order_bounds.specs.Rules.{rule_of}
+use Rattle.rvwmo_order.specs.Rules.{rule_of}
 use Rattle.memory_model.specs.Rules.{asked_by}
 use Rattle.gate_plain_checker.proofs.judging.first_asked.Given as goal
 

@@ -4,7 +4,7 @@ use Rattle.trace_recorder.specs.declared.operation.OpId.{OpId}
 use Rattle.memory_model.specs.Items.{Item}
 use Rattle.memory_model.specs.Traces.{has_each_operation_once, is_among, operation_at}
 use Rattle.memory_model.proofs.Told.{names_find_operations}
-use Rattle.order_bounds.proofs.Bounded.{three}
+use Rattle.rvwmo_order.proofs.Bounded.{three}
 use Rattle.rvwmo_order.proofs.Verdicts.{first_verdict, legal_verdict, sound_verdict, tested_order}
 use Rattle.rvwmo_order.proofs.checking.check_model.Goals as goal
 

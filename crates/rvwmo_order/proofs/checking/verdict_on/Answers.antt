@@ -4,8 +4,8 @@ use Rattle.memory_model.specs.declared.operation.Operation.{Operation}
 use Rattle.memory_model.specs.Items.{Item}
 use Rattle.memory_model.specs.Traces.{instructions, operations_at}
 use Rattle.memory_model.proofs.Named.{Pairwise-from_is_distinct, operations_distinct}
-use Rattle.order_bounds.specs.Bounds.{GivesEach}
-use Rattle.ranked_orders.specs.Ranks.{AreDistinctOperations}
+use Rattle.rvwmo_order.specs.Bounds.{GivesEach}
+use Rattle.rvwmo_order.specs.Ranks.{AreDistinctOperations}
 use Rattle.rvwmo_order.proofs.Clear.{distinct_once}
 use Rattle.rvwmo_order.proofs.Given.{given_each}
 use Rattle.rvwmo_order.proofs.Verdicts.{same_judged}

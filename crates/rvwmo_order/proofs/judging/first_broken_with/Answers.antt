@@ -3,7 +3,7 @@ use Rattle.std.specs.Prelude.{option_and_then, option_copied}
 use Rattle.memory_model.specs.declared.operation.Operation.{Operation}
 use Rattle.memory_model.specs.Items.{Item}
 use Rattle.memory_model.specs.Rules.{paired}
-use Rattle.order_bounds.specs.Bounds.{IsGiven}
+use Rattle.rvwmo_order.specs.Bounds.{IsGiven}
 use Rattle.rvwmo_order.specs.Scans.{is_broken_pair}
 use Rattle.rvwmo_order.proofs.Behind.{no_pair_without_sc}
 use Rattle.rvwmo_order.proofs.Pairs.{found_there, named_at}

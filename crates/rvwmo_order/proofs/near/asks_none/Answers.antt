@@ -1,7 +1,7 @@
 use Rattle.std.proofs.Common.{◌≡◌, ◌∙◌, None, find, sym}
 use Rattle.memory_model.specs.Rules.{asked_by}
-use Rattle.order_bounds.specs.Rules.{rule_of}
-use Rattle.order_bounds.specs.declared.rule.Rule.{Rule}
+use Rattle.rvwmo_order.specs.Rules.{rule_of}
+use Rattle.rvwmo_order.specs.declared.rule.Rule.{Rule}
 use Rattle.rvwmo_order.proofs.Unbroken.{found_none, none_left, of_each_rule, with_first}
 use Rattle.rvwmo_order.proofs.near.asks_none.Goals as goal
 

@@ -1,9 +1,9 @@
 use Rattle.std.proofs.Common.{◌≡◌, None, find, length}
 use Rattle.std.specs.List.{AllByRecursion}
 use Rattle.memory_model.specs.Rules.{asked_by}
-use Rattle.order_bounds.specs.Rules.{rule_of}
+use Rattle.rvwmo_order.specs.Rules.{rule_of}
 use Rattle.rvwmo_order.specs.Scans.{all_rules}
-use Rattle.order_bounds.specs.declared.rule.Rule.{Rule}
+use Rattle.rvwmo_order.specs.declared.rule.Rule.{Rule}
 use Rattle.rvwmo_order.proofs.near.asks_none.Given as goal
 
 -- those so far ask for none, so that all do where those left do

@@ -2,10 +2,10 @@ use Rattle.std.proofs.Common.{◌-◌, ◌∙◌, List, ℕ, ap, drop, find, get
 use Rattle.std.specs.Prelude.{slice_index_or}
 use Rattle.memory_model.specs.declared.operation.Operation.{Operation}
 use Rattle.memory_model.specs.Rules.{asked_by}
-use Rattle.order_bounds.specs.Bounds.{bound_of, unbounded}
-use Rattle.order_bounds.specs.Rules.{rule_of}
-use Rattle.order_bounds.specs.declared.rows.Row.{Row}
-use Rattle.order_bounds.specs.declared.rule.Rule.{Rule}
+use Rattle.rvwmo_order.specs.Bounds.{bound_of, unbounded}
+use Rattle.rvwmo_order.specs.Rules.{rule_of}
+use Rattle.rvwmo_order.specs.declared.bounds.rows.Row.{Row}
+use Rattle.rvwmo_order.specs.declared.rule.Rule.{Rule}
 use Rattle.rvwmo_order.proofs.Clear.{first_left}
 use Rattle.rvwmo_order.proofs.searching.first_behind.Goals as goal
 

@@ -1,6 +1,6 @@
 use Rattle.std.proofs.Common.{◌≡◌, drop}
 use Rattle.memory_model.specs.Rules.{asked_by}
-use Rattle.order_bounds.specs.Rules.{rule_of}
+use Rattle.rvwmo_order.specs.Rules.{rule_of}
 use Rattle.rvwmo_order.specs.Scans.{first_out_of_order}
 use Rattle.rvwmo_order.proofs.searching.first_broken_by.Given as goal
 

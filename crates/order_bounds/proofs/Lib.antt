@@ -1,9 +1,0 @@
-pub mod Bounded
-pub mod Covered
-pub mod Filled
-pub mod Flags
-pub mod Noted
-pub mod Parted
-pub mod Ranked
-pub mod Ranks
-pub mod Touches

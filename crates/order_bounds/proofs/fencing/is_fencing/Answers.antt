@@ -1,5 +1,0 @@
-use Rattle.std.proofs.Common.{rules}
-use Rattle.order_bounds.proofs.fencing.is_fencing.Goals as goal
-
-pub returns-then-writes : goal.returns-then-writes
-returns-then-writes c = search rules

@@ -1,5 +1,0 @@
-use Rattle.std.proofs.Common.{sym}
-use Rattle.ranked_orders.proofs.ranking.Ranking.position_of.Goals as goal
-
-pub returns : goal.returns
-returns c = c.position.ensures c.args.a.now (sym c.name_of.ensures)

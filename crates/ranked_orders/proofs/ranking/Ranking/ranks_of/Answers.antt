@@ -1,6 +1,0 @@
-use Rattle.std.proofs.Common.{ap}
-use Rattle.std.specs.Option.{option_copied}
-use Rattle.ranked_orders.proofs.ranking.Ranking.ranks_of.Goals as goal
-
-pub returns-in-Some : goal.returns-in-Some
-returns-in-Some c = c.kept_ranks.ensures _ (ap option_copied c.in-Some.is)

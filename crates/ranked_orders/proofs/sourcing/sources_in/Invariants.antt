@@ -1,5 +1,0 @@
-use Rattle.ranked_orders.specs.Sourcing.{GivesUpTo, is_come}
-use Rattle.ranked_orders.proofs.sourcing.sources_in.Given as goal
-
-abbrev pub invariant-loop-hart : goal.invariant-loop-hart
-invariant-loop-hart l = GivesUpTo l.order l.sources.items (is_come l.hart 0)

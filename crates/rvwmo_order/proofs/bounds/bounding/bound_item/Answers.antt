@@ -1,0 +1,13 @@
+use Rattle.std.proofs.Common.{◌∙◌, Option, subst, sym}
+use Rattle.rv32_decode.specs.declared.instruction.Instr.{Instr}
+use Rattle.memory_model.specs.Dependencies.{uses_in}
+use Rattle.rvwmo_order.specs.Bounds.{IsBoundsRow}
+use Rattle.rvwmo_order.proofs.Filled.{filled_put}
+use Rattle.rvwmo_order.proofs.bounds.bounding.bound_item.Goals as goal
+
+pub returns-clause-bound : goal.returns-clause-bound
+returns-clause-bound c =
+    filled_put c.args.walk.now.model c.args.harts.now c.args.ranking.now c.args.weights.now c.args.rows.now c.put_row.new.rows c.args.hart c.in-Some.b c.args.walk.now c.row-row.result c.args.item.now c.position_of-position.result c.requires.gives c.requires.bound c.requires.placed c.requires.own c.requires.there
+    (sym c.operation.ensures ∙ c.in-Some.is) c.requires.come
+    (subst (λ (i : Option Instr). IsBoundsRow c.args.ranking.now c.args.weights.now c.args.rows.now c.in-Some.b (uses_in i) c.args.walk.now c.row-row.result) c.instr.ensures c.row-row.ensures)
+    c.position_of-position.ensures c.put_row.ensures
