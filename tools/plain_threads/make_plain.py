@@ -8,7 +8,7 @@ import sys
 HERE = os.path.dirname(os.path.realpath(__file__))
 ROOT = os.environ.get("ROOT") or os.path.dirname(os.path.dirname(HERE))
 CRATES = """tl_types machine_types rv32_decode amo_unit rv32_exec elf_loader backing_memory tilelink_channels store_buffer reservations
-client_cache directory hart trace_recorder memory_model machine_model node_plans machine_parts coherent_machine""".split()
+client_cache directory hart trace_recorder memory_model machine_model word_accesses machine_parts coherent_machine""".split()
 CLAUSES = ("requires", "ensures")
 
 

@@ -46,7 +46,7 @@ impl Model for Machine {
     ghost use Rattle.machine_model.specs.Views.{State};
     ghost use Rattle.coherent_machine.specs.Machine.{IsReached};
     ghost use Rattle.std.specs.Coded.{codes};
-    ghost use Rattle.node_plans.specs.Codes.{cache_coded};
+    ghost use Rattle.machine_parts.specs.Codes.{cache_coded};
 
     ghost Value = { State };
 

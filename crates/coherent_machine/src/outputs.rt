@@ -4,8 +4,8 @@ ghost use Rattle.std.specs.Prelude.{◌≡◌, ◌≤◌, [], IfOk, length, map}
 ghost use Rattle.std.specs.Vec.{vec_capacity};
 ghost use Rattle.machine_types.specs.declared.limits.TheConstants.{MAX_HARTS};
 
+use machine_parts::Node;
 use machine_types::MAX_HARTS;
-use node_plans::Node;
 use std::alloc::{AllocError, Global};
 
 /// Room for one list a hart, asked for when the machine is made, so that taking it apart wants no memory.

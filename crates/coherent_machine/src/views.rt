@@ -22,7 +22,7 @@ pub struct Views<'a> {
 impl<'a> Model for Views<'a> {
     ghost use Rattle.machine_model.specs.Views as views;
     ghost use Rattle.std.specs.Coded.{codes};
-    ghost use Rattle.node_plans.specs.Codes.{cache_coded};
+    ghost use Rattle.machine_parts.specs.Codes.{cache_coded};
 
     ghost Value = { views.State };
 

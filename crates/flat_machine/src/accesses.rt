@@ -13,11 +13,11 @@ use amo_unit::combine;
 use hart::Retired;
 use machine_model::Deed;
 use machine_types::{MemoryModel, Outcome};
-use node_plans::{
-    marks_of, orders_after_stores, read_from, store_of, waits_for_stores, word_of, write_waits,
-};
 use rv32_decode::{AmoOp, Instr};
 use rv32_exec::{Call, Width};
+use word_accesses::{
+    marks_of, orders_after_stores, read_from, store_of, waits_for_stores, word_of, write_waits,
+};
 
 /// An instruction that a hart is about to retire.
 #[derive(Clone, Copy)]

@@ -7,5 +7,8 @@ mod Probes
 mod Rooms
 pub mod RowsAlone
 mod Fronts
+mod PrivateRows
+mod FoundPlans
+mod FoundAccesses
 mod Taken
 pub mod Committed

@@ -1,9 +1,9 @@
 -- Where a node stands after a change of one.
-use Rattle.std.proofs.Common.{◌≡◌, ℕ, ◌<◌, List, length, ap, refl, slice_index_or, subst, sym, ◌∙◌, ◌/◌, map}
+use Rattle.std.proofs.Common.{◌≡◌, ℕ, ◌<◌, List, [], length, Option, None, ap, refl, slice_index_or, subst, sym, ◌∙◌, ◌/◌, map}
 use Rattle.std.specs.List.{range_with_len}
 use Rattle.backing_memory.specs.Memory.{lines_of}
 use Rattle.std.proofs.lemmas.List.{get_or-set_same, get_or_default, length-set, set-set}
-use Rattle.client_cache.specs.Cache.{Cache, probed}
+use Rattle.client_cache.specs.Cache.{Cache, opening, probed}
 use Rattle.client_cache.specs.declared.answers.Probed.{Probed}
 use Rattle.directory.specs.Directory as directory
 use Rattle.directory.specs.Directory.{Notes}
@@ -11,6 +11,8 @@ use Rattle.elf_loader.specs.Image.{Initial}
 use Rattle.trace_recorder.specs.History as history
 use Rattle.trace_recorder.specs.History.{History, with_logged}
 use Rattle.trace_recorder.specs.declared.logged.Logged.{Logged}
+use Rattle.hart.specs.Run.{reset_at}
+use Rattle.hart.specs.declared.state.Hart.{Hart}
 use Rattle.machine_model.specs.Deliveries.{with_less}
 use Rattle.machine_model.specs.Views.{Node, State, no_node, node_at, opening as opening_of, opening_node, with_node, with_trace}
 use Rattle.machine_parts.specs.Lists.{KeepsLists}
@@ -19,6 +21,8 @@ use Rattle.tl_types.specs.Line.{length_of}
 use Rattle.machine_types.specs.declared.config.Config.{Config}
 use Rattle.tl_types.specs.declared.line.LineData.{LineData}
 use Rattle.tl_types.specs.declared.permission.Cap.{Cap}
+use Rattle.store_buffer.specs.Groups.{Groups, no_groups}
+use Rattle.tilelink_channels.specs.Queues.{Waiting, none_waiting}
 
 pub node_same : (h : ℕ) (n : Node) (s : State) → h < length s.views.nodes → node_at (with_node h n s) h ≡ n
 node_same h n s l = get_or-set_same s.views.nodes h n _ l
@@ -54,6 +58,11 @@ pub kept_on : (r s t : Standing) → KeepsLists r s → KeepsLists s t → Keeps
 kept_on r s t k l = record { nodes = l.nodes ∙ k.nodes; entries = l.entries ∙ k.entries; statuses = l.statuses ∙ k.statuses; room = l.room ∙ k.room }
 
 -- ---- at reset
+
+pub opened : (image : Initial) (config : Config) (id entry : ℕ) (hart : Hart) (output : List ℕ) (reserved : Option ℕ) (buffer : Groups) (cache : Cache) (queues : Waiting)
+    → entry ≡ image.entry → hart ≡ reset_at entry id config.harts → output ≡ [] → reserved ≡ None → buffer ≡ no_groups → cache ≡ opening config.sets config.ways config.line → queues ≡ none_waiting
+    → record { hart = hart; output = output; reserved = reserved; buffer = buffer; cache = cache; queues = queues } ≡ opening_node image config id
+opened image config id entry hart output reserved buffer cache queues e h o r b c q = rw (h, e, o, r, b, c, q) refl
 
 pub opened_state : (image : Initial) (config : Config) (nodes : List Node) (memory : List LineData) (notes : Notes) (trace : History)
     → nodes ≡ map (opening_node image config) (range_with_len 0 config.harts) → memory ≡ lines_of config.line image.bytes

@@ -1,3 +1,4 @@
+pub mod Codes
 pub mod Standing
 pub mod Parts
 pub mod Needs
@@ -6,3 +7,4 @@ pub mod Drains
 pub mod Lists
 pub mod Handled
 pub mod Deciding
+pub mod Accesses

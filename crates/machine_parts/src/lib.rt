@@ -5,9 +5,12 @@
 mod applying;
 mod errors;
 mod limits;
+mod lines;
+mod node;
 mod parts;
 mod perform;
 mod plan;
 
 pub use errors::ApplyError;
+pub use node::Node;
 pub use parts::Parts;

@@ -1,6 +1,12 @@
-//! Which events are good, and what each comes to.
+//! Which events are good, and what each comes to, each kind in its file.
 
+mod access;
 mod deliver;
+mod drain;
+mod evict;
+mod local;
+mod miss;
+mod step;
 
 ghost use Rattle.std.specs.Prelude.{◌≡◌, ◌<◌, ◌≤◌, IsTrue, length};
 ghost use Rattle.machine_model.specs.Changing.{next_place};
@@ -8,12 +14,16 @@ ghost use Rattle.machine_model.specs.Events.{hart_of, is_good, is_piece, names_w
 ghost use Rattle.machine_model.specs.Ready.{IsSound};
 ghost use Rattle.machine_model.specs.Views.{node_at};
 
+use crate::node::Node;
 use crate::parts::Parts;
 use deliver::plan_deliver;
+use drain::plan_drain;
 use elf_loader::{BASE, Image};
+use evict::plan_evict;
+use local::plan_local;
 use machine_model::Plan;
 use machine_types::{Event, MAX_ROW};
-use node_plans::{Node, plan_drain, plan_evict, plan_local, plan_step};
+use step::plan_step;
 
 /// The hart that an event names.
 pub(crate) fn hart_of(event: &Event) -> u8

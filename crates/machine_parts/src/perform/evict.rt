@@ -11,9 +11,9 @@ ghost use Rattle.machine_model.specs.Views.{node_at, with_node};
 ghost use Rattle.machine_parts.specs.Needs.{HasNeeded, needs_of};
 
 use super::messages::send;
+use crate::node::Node;
 use crate::parts::Parts;
 use client_cache::Evict;
-use node_plans::Node;
 use tl_types::{Body, Change, LineData, LineSize, Msg};
 
 /// The cache gives a line up, and a Release goes out.

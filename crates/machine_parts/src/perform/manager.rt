@@ -12,10 +12,10 @@ ghost use Rattle.tl_types.specs.Line.{size_of};
 ghost use Rattle.tl_types.specs.Permission.{left_by};
 
 use super::messages::send;
+use crate::lines::place_of;
 use crate::parts::Parts;
 use backing_memory::Memory;
 use directory::{Acquired, Grant, HartSet, Sent};
-use node_plans::place_of;
 use tl_types::{Body, Cap, Change, Grow, LineData, Msg, Perm};
 
 /// Data that came with a message go to memory.

@@ -12,12 +12,13 @@ ghost use Rattle.tilelink_channels.specs.Queues.{front_of, queue_of};
 ghost use Rattle.tl_types.specs.declared.permission.Cap.{Cap as AnyCap};
 ghost use Rattle.tl_types.specs.declared.permission.Grow.{Grow as AnyGrow};
 
+use crate::lines::place_of;
+use crate::node::Node;
 use crate::parts::Parts;
 use client_cache::ClientCache;
 use directory::{Directory, Transaction};
 use machine_model::{Act, Plan};
 use machine_types::Outcome;
-use node_plans::{Node, place_of};
 use tl_types::{Body, Channel, Msg};
 
 /// An Acquire waits while its line has a transaction.

@@ -1,5 +1,0 @@
-mod Numbers
-mod Opened
-mod PrivateRows
-mod FoundPlans
-mod FoundAccesses

@@ -1,6 +1,0 @@
-use Rattle.rv32_exec.specs.Width.{byte_count}
-use Rattle.node_plans.proofs.Numbers.{stored-again}
-use Rattle.node_plans.proofs.words.store_of.Goals as goal
-
-pub returns : goal.returns
-returns c = stored-again c.args.address (byte_count c.args.size) c.args.value c.args.op c.word_of.result c.marks_of.result c.to_le_bytes.result c.word_of.ensures c.marks_of.ensures c.to_le_bytes.ensures
