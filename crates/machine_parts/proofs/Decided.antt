@@ -16,8 +16,12 @@ use Rattle.machine_model.specs.Changing.{acted, outcome_by, outcome_of_act, next
 use Rattle.machine_model.specs.Events.{Verdict, counted, entries_by, hart_of, is_good, is_limited, names_well, plan_of, verdict, verdict_by}
 use Rattle.machine_model.specs.Events.Verdict.{IsBad, Keeps, IsLimited, Moves}
 use Rattle.machine_model.specs.Ready.{AreReady, IsReady}
+use Rattle.machine_model.proofs.Plans.{IsReady as IsFound, Rests, act_rests}
 use Rattle.machine_model.specs.Views.{State, node_at}
 use Rattle.machine_parts.specs.Applying.{Answers, answer_to, decided, decided_by}
+use Rattle.machine_parts.specs.Unstalled.{IsAnswered, IsGivenUp, IsHandled, IsUnstalled, IsUnstalledBody}
+use Rattle.tl_types.specs.declared.message.Body.{Body}
+use Rattle.tl_types.specs.declared.message.Body.TheVariants.{AcquireBlock, ProbeBlock, ProbeAck, ProbeAckData, Release, ReleaseData, Grant, GrantData, ReleaseAck, GrantAck}
 use Rattle.hart.specs.declared.status.Status.{Status}
 use Rattle.hart.specs.declared.status.Status.TheVariants.{Exited, Running}
 use Rattle.hart.specs.Run.{status_after}
@@ -72,6 +76,31 @@ pub in_list : (s : State) (h : ℕ) (e : Event) (a : Act) → h ≡ hart_of e �
 in_list s h e a own is =
     let limits = or_parts (nat_le MAX_CHANGES s.views.changes) (nat_lt MAX_ENTRIES (next_place s (hart_of e) + entries_by a)) (acts s e a is).fits in
     subst (λ (k : ℕ). next_place s k + entries_by a ≤ MAX_ENTRIES) (sym own) (ltb-false MAX_ENTRIES (next_place s (hart_of e) + entries_by a) limits.1)
+
+-- nothing stands in its way
+unstalled_body : (s : State) (h line : ℕ) (b : Body) → IsFound s h line b → IsUnstalledBody h line b s
+unstalled_body s h line (AcquireBlock grow) f = subst IsHandled (sym f.1) tt
+unstalled_body s h line (ProbeBlock cap) f = subst IsAnswered (sym f.2) tt
+unstalled_body s h line (ProbeAck change) f = tt
+unstalled_body s h line (ProbeAckData change bytes) f = tt
+unstalled_body s h line (Release change) f = tt
+unstalled_body s h line (ReleaseData change bytes) f = tt
+unstalled_body s h line (Grant cap) f = tt
+unstalled_body s h line (GrantData cap bytes) f = tt
+unstalled_body s h line ReleaseAck f = tt
+unstalled_body s h line GrantAck f = tt
+
+unstalled_act : (s : State) (e : Event) (a : Act) → Rests s e a → IsUnstalled (hart_of e) a s
+unstalled_act s e (act.Stop code) r = tt
+unstalled_act s e (act.Retire entry i d) r = tt
+unstalled_act s e (act.Miss line grow) r = tt
+unstalled_act s e (act.Drain word) r = tt
+unstalled_act s e (act.Evict line) r = subst IsGivenUp (sym r.1.2) tt
+unstalled_act s e (act.Deliver m) r = unstalled_body s (hart_of e) m.line m.body r.2.ready
+unstalled_act s e (act.Local count) r = tt
+
+pub unstalled : (s : State) (h : ℕ) (e : Event) (a : Act) → h ≡ hart_of e → decided s e ≡ Ok (Changes a) → IsUnstalled h a s
+unstalled s h e a own is = subst (λ (k : ℕ). IsUnstalled k a s) (sym own) (unstalled_act s e a (act_rests s e a (acts s e a is).plan))
 
 -- ---- the verdict
 

@@ -2,6 +2,7 @@
 use Rattle.std.specs.Prelude.{◌≡◌, ◌<◌, ℕ, IsTrue, length}
 use Rattle.std.proofs.Common.{◌∙◌, ap, subst, sym}
 use Rattle.std.specs.FinSet as set
+use Rattle.client_cache.specs.Cache.{probed}
 use Rattle.client_cache.specs.declared.shape.Shape.{Shape}
 use Rattle.machine_model.specs.Deliveries.{taken}
 use Rattle.machine_model.specs.Events.{is_piece}
@@ -14,6 +15,7 @@ use Rattle.tl_types.specs.declared.message.Body.{Body}
 use Rattle.tl_types.specs.declared.message.Body.TheVariants.{AcquireBlock, ProbeBlock, ProbeAck, ProbeAckData, Release, ReleaseData, Grant, GrantData, ReleaseAck, GrantAck}
 use Rattle.tl_types.specs.declared.message.Msg.{Msg}
 use Rattle.machine_parts.specs.Handled.{HasLine}
+use Rattle.machine_parts.specs.Unstalled.{IsAnswered, IsUnstalledBody}
 use Rattle.machine_parts.proofs.Fronts.{from_base, noted_line}
 use Rattle.machine_parts.proofs.Nodes.{node_same}
 
@@ -54,3 +56,18 @@ body_taken h m s t e l r = subst (IsReadyBody h m.line m.body) (sym e) (go m.bod
     go (GrantData cap bytes) r = tracked r
     go ReleaseAck r = r
     go GrantAck r = r
+
+pub unstalled_taken : (h : ℕ) (m : Msg) (s t : State) → t ≡ taken h m s → h < length s.views.nodes → IsUnstalledBody h m.line m.body s → IsUnstalledBody h m.line m.body t
+unstalled_taken h m s t e l r = subst (IsUnstalledBody h m.line m.body) (sym e) (go m.body r)
+  where
+    go : (b : Body) → IsUnstalledBody h m.line b s → IsUnstalledBody h m.line b (taken h m s)
+    go (AcquireBlock grow) r = r
+    go (ProbeBlock cap) r = subst (λ (n : Node). IsAnswered (probed n.cache m.line cap).0) (sym (node_taken h m s l)) r
+    go (ProbeAck change) r = tt
+    go (ProbeAckData change bytes) r = tt
+    go (Release change) r = tt
+    go (ReleaseData change bytes) r = tt
+    go (Grant cap) r = tt
+    go (GrantData cap bytes) r = tt
+    go ReleaseAck r = tt
+    go GrantAck r = tt

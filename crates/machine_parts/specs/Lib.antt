@@ -6,5 +6,6 @@ pub mod Applying
 pub mod Drains
 pub mod Lists
 pub mod Handled
+pub mod Unstalled
 pub mod Deciding
 pub mod Accesses

@@ -18,6 +18,7 @@ ghost use Rattle.machine_model.specs.Changing as changing;
 ghost use Rattle.machine_model.specs.Events as events;
 ghost use Rattle.machine_model.specs.Ready.{IsReady, IsReadyAct, IsSound};
 ghost use Rattle.machine_parts.specs.Needs.{HasNeeded, needs_of};
+ghost use Rattle.machine_parts.specs.Unstalled.{IsUnstalled};
 
 use crate::parts::Parts;
 use deliver::deliver;
@@ -34,6 +35,7 @@ pub(crate) fn perform(parts: &mut Parts, hart: u8, act: &Act) -> Result<(), Allo
     requires sound { IsSound parts.old.state }
     requires hart { hart < length parts.old.state.views.nodes }
     requires ready { IsReady hart act.now parts.old.state }
+    requires unstalled { IsUnstalled hart act.now parts.old.state }
     requires fits { changing.next_place parts.old.state hart + events.entries_by act.now ≤ MAX_ENTRIES }
     requires room { HasNeeded hart (needs_of parts.old.state hart act.now) parts.old.room }
     ensures ok { OnOk result (parts.new.state ≡ changing.acted hart act.now parts.old.state) }

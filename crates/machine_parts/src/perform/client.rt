@@ -7,6 +7,7 @@ ghost use Rattle.machine_model.specs.Deliveries.{on_grant, on_probe, on_release_
 ghost use Rattle.machine_model.specs.Laws.{QueuesFit};
 ghost use Rattle.machine_model.specs.Views.{line_size, node_at};
 ghost use Rattle.machine_parts.specs.Handled.{installed, shrunk};
+ghost use Rattle.machine_parts.specs.Unstalled.{IsAnswered};
 
 use super::messages::send;
 use crate::parts::Parts;
@@ -78,13 +79,14 @@ fn probe_ack_body(change: Change, bytes: Option<LineData>) -> Body
 pub(crate) fn on_probe(parts: &mut Parts, hart: u8, line: u32, cap: Cap)
     requires hart { hart < length parts.old.state.views.nodes }
     requires size { (node_at parts.old.state hart).cache.shape.size ≡ line_size parts.old.state }
+    requires unstalled { IsAnswered (probed (node_at parts.old.state hart).cache line cap).0 }
     requires queues { QueuesFit (on_probe hart line cap parts.old.state) }
     requires log { 0 < parts.old.room.log }
     ensures { parts.new.state ≡ on_probe hart line cap parts.old.state }
 {
     let answer = shrink(parts, hart, line, cap);
     let Probed::Answered { change, bytes } = answer else {
-        return;
+        unreachable!()
     };
     send(
         parts,

@@ -150,7 +150,7 @@ fn write(parts: &mut Parts, hart: u8, word: u32, value: u32)
     ensures room { parts.new.room ≡ parts.old.room }
     ensures kept { KeepsLists parts.old parts.new }
 {
-    let line = parts.trace.line_size().line_of(word);
+    let line = parts.config.line.line_of(word);
     parts.nodes[hart as usize]
         .cache
         .write_word(line, word, [true; 4], value.to_le_bytes());

@@ -8,6 +8,7 @@ ghost use Rattle.machine_model.specs.Views.{line_size, node_at};
 ghost use Rattle.machine_model.specs.declared.act.Act.{Act};
 ghost use Rattle.machine_parts.specs.Handled.{HasLine};
 ghost use Rattle.machine_parts.specs.Needs.{HasNeeded, needs_of};
+ghost use Rattle.machine_parts.specs.Unstalled.{IsUnstalledBody};
 
 use super::client::{on_grant, on_probe, on_release_ack};
 use super::manager::{on_acquire, on_grant_ack, on_probe_ack, on_release};
@@ -22,6 +23,7 @@ fn handle(parts: &mut Parts, hart: u8, message: &Msg)
     requires line { HasLine message.now.line parts.old.state }
     requires size { (node_at parts.old.state hart).cache.shape.size ≡ line_size parts.old.state }
     requires body { IsReadyBody hart message.now.line message.now.body parts.old.state }
+    requires unstalled { IsUnstalledBody hart message.now.line message.now.body parts.old.state }
     requires queues { QueuesFit (handled hart message.now.line message.now.body parts.old.state) }
     requires log { length parts.old.state.views.nodes ≤ parts.old.room.log }
     ensures { parts.new.state ≡ handled hart message.now.line message.now.body parts.old.state }
@@ -49,6 +51,7 @@ pub(crate) fn deliver(parts: &mut Parts, hart: u8, message: &Msg)
     requires sound { IsSound parts.old.state }
     requires hart { hart < length parts.old.state.views.nodes }
     requires ready { IsReadyMessage hart message.now parts.old.state }
+    requires unstalled { IsUnstalledBody hart message.now.line message.now.body parts.old.state }
     requires queues { QueuesFit (delivered hart message.now parts.old.state) }
     requires room { HasNeeded hart (needs_of parts.old.state hart (Act.Deliver message.now)) parts.old.room }
     ensures { parts.new.state ≡ delivered hart message.now parts.old.state }

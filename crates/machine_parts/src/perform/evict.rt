@@ -9,6 +9,7 @@ ghost use Rattle.machine_model.specs.Laws.{QueuesFit};
 ghost use Rattle.machine_model.specs.Ready.{IsSound};
 ghost use Rattle.machine_model.specs.Views.{node_at, with_node};
 ghost use Rattle.machine_parts.specs.Needs.{HasNeeded, needs_of};
+ghost use Rattle.machine_parts.specs.Unstalled.{IsGivenUp};
 
 use super::messages::send;
 use crate::node::Node;
@@ -21,16 +22,15 @@ pub(crate) fn give_up(parts: &mut Parts, hart: u8, line: u32)
     requires sound { IsSound parts.old.state }
     requires hart { hart < length parts.old.state.views.nodes }
     requires room { HasNeeded hart (needs_of parts.old.state hart (act.Evict line)) parts.old.room }
+    requires unstalled { IsGivenUp (evicted (node_at parts.old.state hart).cache line).0 }
     requires room_in_queue { QueuesFit (given_up hart line parts.old.state) }
     ensures { parts.new.state ≡ given_up hart line parts.old.state }
 {
-    match lose(parts, hart, line) {
-        Evict::Evicted { change, bytes } => {
-            let body = release_body(change, bytes);
-            send(parts, hart, &Msg { line, body });
-        }
-        Evict::NotHeld | Evict::AcquirePending | Evict::ReleaseFull => {}
-    }
+    let Evict::Evicted { change, bytes } = lose(parts, hart, line) else {
+        unreachable!()
+    };
+    let body = release_body(change, bytes);
+    send(parts, hart, &Msg { line, body });
 }
 
 fn release_body(change: Change, bytes: Option<LineData>) -> Body
@@ -50,7 +50,7 @@ fn lose(parts: &mut Parts, hart: u8, line: u32) -> Evict
     ensures state { parts.new.state ≡ with_node hart (with_less (evicted (node_at parts.old.state hart).cache line).1 line (node_at parts.old.state hart)) parts.old.state }
     ensures room { parts.new.room ≡ parts.old.room }
 {
-    let size = parts.trace.line_size();
+    let size = parts.config.line;
     lose_copy(&mut parts.nodes[hart as usize], size, line)
 }
 

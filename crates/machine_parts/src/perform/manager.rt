@@ -2,12 +2,13 @@
 
 ghost use Rattle.std.specs.Prelude.{◌≡◌, ◌≢◌, ◌<◌, ◌≤◌, All, length};
 ghost use Rattle.backing_memory.specs.Memory.{line_data};
-ghost use Rattle.directory.specs.Directory.{SendsToHarts};
+ghost use Rattle.directory.specs.Directory.{SendsToHarts, acquired};
 ghost use Rattle.elf_loader.specs.Size.{base};
 ghost use Rattle.machine_model.specs.Deliveries.{grant_body, line_in_memory, on_acquire, on_grant_ack, on_probe_ack, on_release, sent_any, sent_grant, sent_probes};
 ghost use Rattle.machine_model.specs.Laws.{QueuesFit};
 ghost use Rattle.machine_model.specs.Views.{line_size, place_of};
 ghost use Rattle.machine_parts.specs.Handled.{HasLine, HasSize, count_of, written_back};
+ghost use Rattle.machine_parts.specs.Unstalled.{IsHandled};
 ghost use Rattle.tl_types.specs.Line.{size_of};
 ghost use Rattle.tl_types.specs.Permission.{left_by};
 
@@ -93,14 +94,16 @@ pub(crate) fn on_acquire(parts: &mut Parts, hart: u8, line: u32, grow: Grow)
     requires hart { hart < parts.old.state.views.notes.harts }
     requires harts { parts.old.state.views.notes.harts ≡ length parts.old.state.views.nodes }
     requires line { HasLine line parts.old.state }
+    requires unstalled { IsHandled (acquired parts.old.state.views.notes (place_of (line_size parts.old.state) line) hart grow).0 }
     requires queues { QueuesFit (on_acquire hart line grow parts.old.state) }
     requires log { length parts.old.state.views.nodes ≤ parts.old.room.log }
     ensures { parts.new.state ≡ on_acquire hart line grow parts.old.state }
 {
     let place = place_of(parts.config.line, line);
-    if let Acquired::Handled(sent) = parts.directory.on_acquire(place, hart, grow) {
-        send_any(parts, line, sent);
-    }
+    let Acquired::Handled(sent) = parts.directory.on_acquire(place, hart, grow) else {
+        unreachable!()
+    };
+    send_any(parts, line, sent);
 }
 
 /// A Release: its data go to memory, and it is answered at once.

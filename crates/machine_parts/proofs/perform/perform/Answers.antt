@@ -7,6 +7,7 @@ use Rattle.machine_model.specs.Laws.{QueuesFit}
 use Rattle.machine_model.specs.Ready.{IsReadyAct}
 use Rattle.machine_model.specs.Views.{State}
 use Rattle.machine_parts.specs.Needs.{HasNeeded, needs_of}
+use Rattle.machine_parts.specs.Unstalled.{IsUnstalled}
 use Rattle.trace_recorder.specs.History.{Room}
 use Rattle.machine_parts.proofs.perform.perform.Goals as goal
 
@@ -52,6 +53,12 @@ drain-requires-clause-ready c = ready_of c.args.hart c.args.act.now _ c.args.par
 
 pub deliver-requires-clause-ready : goal.deliver-requires-clause-ready
 deliver-requires-clause-ready c = ready_of c.args.hart c.args.act.now _ c.args.parts.now.state c.in-Deliver.is c.requires.ready.act
+
+pub give_up-requires-clause-unstalled : goal.give_up-requires-clause-unstalled
+give_up-requires-clause-unstalled c = subst (λ (a : Act). IsUnstalled c.args.hart a c.args.parts.now.state) c.in-Evict.is c.requires.unstalled
+
+pub deliver-requires-clause-unstalled : goal.deliver-requires-clause-unstalled
+deliver-requires-clause-unstalled c = subst (λ (a : Act). IsUnstalled c.args.hart a c.args.parts.now.state) c.in-Deliver.is c.requires.unstalled
 
 pub retire-requires-clause-few : goal.retire-requires-clause-few
 retire-requires-clause-few c =

@@ -6,9 +6,10 @@ use Rattle.machine_model.specs.Changing.{acted}
 use Rattle.machine_model.specs.Ready.{IsReady, IsSound}
 use Rattle.machine_model.specs.Views.{State}
 use Rattle.machine_parts.proofs.Changes.{acted_keeps_changes}
-use Rattle.machine_parts.proofs.Decided.{answers_kept, answers_moved, answers_refused, answers_wanting, in_list, ready, there}
+use Rattle.machine_parts.proofs.Decided.{answers_kept, answers_moved, answers_refused, answers_wanting, in_list, ready, there, unstalled}
 use Rattle.machine_parts.specs.Needs.{HasNeeded, needs_of}
 use Rattle.machine_parts.specs.Standing.{Standing}
+use Rattle.machine_parts.specs.Unstalled.{IsUnstalled}
 use Rattle.machine_parts.proofs.parts.Parts.apply.Goals as goal
 
 pub returns-in-Err : goal.returns-in-Err
@@ -57,6 +58,11 @@ pub returns-in_err-perform : goal.returns-in_err-perform
 returns-in_err-perform c =
     answers_wanting c.args.self.now.state c.perform.new.parts.state c.hart_of-hart.result c.args.event.now c.in-Ok-Changes.act c.from_residual-in_err-perform.result c.hart_of-hart.ensures (sym c.in-Ok-Changes.ensures ∙ ap Ok c.in-Ok-Changes.field-0-is)
     c.from_residual-in_err-perform.ensures.1 (c.in_err-perform.ensures.err ∙ c.reserve.ensures.same) (λ code q. cc (c.in_err-perform.ensures.stop code q))
+
+pub perform-requires-clause-unstalled : goal.perform-requires-clause-unstalled
+perform-requires-clause-unstalled c =
+    subst (IsUnstalled c.hart_of-hart.result c.in-Ok-Changes.act) (sym c.reserve.ensures.same)
+    (unstalled c.args.self.now.state c.hart_of-hart.result c.args.event.now c.in-Ok-Changes.act c.hart_of-hart.ensures (sym c.in-Ok-Changes.ensures ∙ ap Ok c.in-Ok-Changes.field-0-is))
 
 pub overflow_add-self : goal.overflow_add-self
 overflow_add-self c =

@@ -3,6 +3,7 @@ use Rattle.machine_model.specs.Deliveries.{handled}
 use Rattle.machine_model.specs.Laws.{QueuesFit}
 use Rattle.machine_model.specs.Ready.{IsReadyBody}
 use Rattle.machine_model.specs.Views.{State}
+use Rattle.machine_parts.specs.Unstalled.{IsUnstalledBody}
 use Rattle.tl_types.specs.declared.message.Body.{Body}
 use Rattle.machine_parts.proofs.perform.deliver.handle.Goals as goal
 
@@ -13,6 +14,9 @@ fit_of h line body is s e = subst (λ (b : Body). QueuesFit (handled h line b s)
 ready_of : (h line : ℕ) (body is : Body) (s : State) → body ≡ is → IsReadyBody h line body s → IsReadyBody h line is s
 ready_of h line body is s e = subst (λ (b : Body). IsReadyBody h line b s) e
 
+unstalled_of : (h line : ℕ) (body is : Body) (s : State) → body ≡ is → IsUnstalledBody h line body s → IsUnstalledBody h line is s
+unstalled_of h line body is s e = subst (λ (b : Body). IsUnstalledBody h line b s) e
+
 handled_of : (h line : ℕ) (body is : Body) (s new : State) → body ≡ is → new ≡ handled h line is s → new ≡ handled h line body s
 handled_of h line body is s new e done = done ∙ sym (ap (λ (b : Body). handled h line b s) e)
 
@@ -22,6 +26,12 @@ noted h harts nodes e l = subst (λ n. h < n) (sym e) l
 
 room_left : (h nodes log : ℕ) → h < nodes → nodes ≤ log → 0 < log
 room_left h nodes log l few = omega arith
+
+pub on_acquire-requires-clause-unstalled : goal.on_acquire-requires-clause-unstalled
+on_acquire-requires-clause-unstalled c = unstalled_of c.args.hart c.args.message.now.line c.args.message.now.body _ c.args.parts.now.state c.in-AcquireBlock.is c.requires.unstalled
+
+pub on_probe-requires-clause-unstalled : goal.on_probe-requires-clause-unstalled
+on_probe-requires-clause-unstalled c = unstalled_of c.args.hart c.args.message.now.line c.args.message.now.body _ c.args.parts.now.state c.in-ProbeBlock.is c.requires.unstalled
 
 pub on_acquire-requires-clause-queues : goal.on_acquire-requires-clause-queues
 on_acquire-requires-clause-queues c = fit_of c.args.hart c.args.message.now.line c.args.message.now.body _ c.args.parts.now.state c.in-AcquireBlock.is c.requires.queues

@@ -4,8 +4,10 @@ use Rattle.directory.specs.Directory.{Notes, SendsToHarts, acquired}
 use Rattle.directory.specs.declared.answer.Acquired.{Acquired}
 use Rattle.machine_model.specs.Deliveries.{on_acquire}
 use Rattle.machine_model.specs.Laws.{QueuesFit}
+use Rattle.machine_model.specs.Views.{line_size, place_of}
 use Rattle.machine_parts.specs.Parts.{standing_of}
 use Rattle.machine_parts.specs.Standing.{Standing}
+use Rattle.machine_parts.specs.Unstalled.{IsHandled}
 use Rattle.machine_parts.proofs.Probes.{few_sent, fit_handled}
 use Rattle.machine_parts.proofs.perform.manager.on_acquire.Goals as goal
 
@@ -29,3 +31,10 @@ send_any-requires-clause-log c =
     let all = subst (λ (k : ℕ). SendsToHarts k c.in-Handled.sent) harts c.in-Handled.ensures.harts in
     let few = few_sent s.views.notes c.place_of-place.result c.args.hart c.args.grow c.in-Handled.sent (length s.views.nodes) answer (omega (arith, hart, harts)) all in
     omega (arith, few, log)
+
+pub unreachable-requires : goal.unreachable-requires
+unreachable-requires c =
+    let s = (standing_of c.parts.inside).state in
+    let there = subst (λ (p : Standing). IsHandled (acquired p.state.views.notes (place_of (line_size p.state) c.args.line) c.args.hart c.args.grow).0) (sym c.parts.view_is) c.requires.unstalled in
+    let answer = ap (λ (a : Acquired × Notes). a.0) c.on_acquire.ensures.meaning ∙ ap (λ (place : ℕ). (acquired s.views.notes place c.args.hart c.args.grow).0) c.place_of-place.ensures in
+    subst IsHandled (sym answer ∙ c.in_default.is) there
