@@ -68,6 +68,19 @@ def over_the_program(rvtl, folder):
         tell("the program stays", file.read() == words, program)
 
 
+def over_standard_output(rvtl, folder):
+    """A journal isn't written into the file that the trace is printed into."""
+    journal = os.path.join(folder, "both.script")
+    run = [rvtl, "run", "--raw", "--journal", journal, IMAGE]
+    with open(journal, "wb") as file:
+        end = subprocess.run(run, stdout=file, stderr=subprocess.PIPE, timeout=60)
+    told = [f"rvtl: {journal}: cannot write", "note: standard output goes into this file: name another one for --journal"]
+    tell("a journal on standard output", end.returncode == 1 and end.stderr.decode().splitlines() == told, end)
+    with open("/dev/null", "wb") as null:
+        end = subprocess.run([rvtl, "run", "--raw", "--journal", "/dev/null", IMAGE], stdout=null, stderr=subprocess.PIPE, timeout=60)
+    tell("a journal and a trace that nobody wants", end.returncode == 0, end)
+
+
 def interrupted(rvtl, folder):
     """A run that is interrupted leaves no journal, and says nothing."""
     journal = os.path.join(folder, "interrupted.script")
@@ -152,6 +165,7 @@ def main():
         ends("scripts for no folder", [rvtl, "explore", "--raw", "--scripts", f"{folder}/no", IMAGE], 1,
              [f"rvtl: {folder}/no: cannot write", f"note: {folder}/no/outcome-1.script: there is no such file or folder"])
         over_the_program(rvtl, folder)
+        over_standard_output(rvtl, folder)
         scripts = f"{folder}/scripts"
         os.makedirs(f"{scripts}/outcome-1.script")
         ends("a folder in a script's place", [rvtl, "explore", "--raw", "--scripts", scripts, IMAGE], 1,

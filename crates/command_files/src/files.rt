@@ -24,6 +24,13 @@ pub trait Files {
         one == other
     }
 
+    /// Whether standard output goes into the file of this name, as far as that can be told.
+    fn is_output(&mut self, _name: &str) -> bool
+        ensures stays { held self.new ≡ held self.old }
+    {
+        false
+    }
+
     /// Makes a file of these bytes, in place of the one that has the name.
     fn write(&mut self, name: &str, bytes: &[u8]) -> io::Result<()>
         ensures written { OnOk result (HoldsBytes (held self.new) name.now bytes.now) }

@@ -86,6 +86,10 @@ impl<R: Input, F: Files + Drop> Files for WithInput<'_, R, F> {
         self.files.are_same(path_of(one), path_of(other))
     }
 
+    fn is_output(&mut self, name: &str) -> bool {
+        self.files.is_output(path_of(name))
+    }
+
     fn write(&mut self, name: &str, bytes: &[u8]) -> io::Result<()> {
         refuse_input(name)?;
         self.files.write(name, bytes)

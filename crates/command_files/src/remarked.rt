@@ -51,6 +51,10 @@ impl<F: Files + Drop> Files for Remarked<F> {
         self.files.are_same(one, other)
     }
 
+    fn is_output(&mut self, name: &str) -> bool {
+        self.files.is_output(name)
+    }
+
     fn write(&mut self, name: &str, bytes: &[u8]) -> io::Result<()> {
         self.files.write(name, bytes)
     }

@@ -7,6 +7,9 @@ use std::os::unix::fs::MetadataExt;
 use std::path::Path;
 use std::rt::Files as System;
 
+/// The path of what standard output goes into.
+const OUTPUT: &str = "/dev/stdout";
+
 /// The files of the system that the runtime stands for.
 #[derive(Drop)]
 pub struct SystemFiles<'r, R> {
@@ -45,6 +48,14 @@ impl<R: System> Files for SystemFiles<'_, R> {
         match (fs::metadata(self.rt, one), fs::metadata(self.rt, other)) {
             (Ok(one), Ok(other)) => one.dev() == other.dev() && one.ino() == other.ino(),
             _ => false,
+        }
+    }
+
+    // Devices, pipes and terminals keep what others write.
+    fn is_output(&mut self, name: &str) -> bool {
+        match fs::metadata(self.rt, OUTPUT) {
+            Ok(output) => output.is_file() && self.are_same(OUTPUT, name),
+            Err(_) => false,
         }
     }
 

@@ -69,7 +69,8 @@ impl<P: Progress> Gate for Watch<'_, P> {
 
 /// Judges the machine's size, reads the image, runs it, writes the journal, and then prints the trace on
 /// `out` and each hart's end on `err`. Where the journal is not written nothing is printed. A journal in no
-/// folder, or over the image's file by whatever name, is refused before the run, which can't be made again. That
+/// folder, or over the image's file or standard output by whatever name, is refused before the run, which can't be
+/// made again. That
 /// a limit ended the run before its harts is remarked. While it runs, `progress` is told how far it is.
 pub fn run_files<'a, R: Threads + Wait + Sync, F: Files, O: Write, E: Write, P: Progress + Sync>(
     rt: &R,
@@ -101,8 +102,7 @@ pub fn run_files<'a, R: Threads + Wait + Sync, F: Files, O: Write, E: Write, P: 
         wanted.image,
         wanted.machine.memory,
     )?;
-    spare_image(alloc, files, wanted.image, wanted.journal)?;
-    check_writable(alloc, files, wanted.journal)?;
+    check_journal(alloc, files, wanted.image, wanted.journal)?;
     let limit = u64::from(wanted.limit);
     let watch = Watch::new(progress);
     let report = match run(rt, alloc, image, config, limit, &watch) {
@@ -128,6 +128,24 @@ pub fn run_files<'a, R: Threads + Wait + Sync, F: Files, O: Write, E: Write, P: 
     Ok(())
 }
 
+/// Refuses a journal of which no file can be made, and one that would be written over the program or be lost in
+/// what is printed.
+fn check_journal<'a, F: Files>(
+    alloc: Global,
+    files: &mut F,
+    image: &str,
+    journal: &'a str,
+) -> Result<(), Fault<'a>>
+    ensures apart { OnOk result (image.now ≢ journal.entry.now) }
+    ensures told { IfErr result (λ fault. (fault ≡ Fault.CannotMake journal.entry) ⊎ (fault ≡ Fault.OutOfMemory)) }
+    ensures stays { F.held files.new ≡ F.held files.old }
+{
+    spare_image(alloc, files, image, journal)?;
+    spare_output(alloc, files, journal)?;
+    check_writable(alloc, files, journal)?;
+    Ok(())
+}
+
 /// Refuses a journal that would be written over the program, also by another name of that file.
 fn spare_image<'a, F: Files>(
     alloc: Global,
@@ -144,6 +162,26 @@ fn spare_image<'a, F: Files>(
             alloc,
             files,
             "this is the program: name another file for --journal",
+        );
+        return Err(Fault::CannotMake { file: journal });
+    }
+    Ok(())
+}
+
+/// Refuses a journal in the file that standard output goes into, by whatever name.
+fn spare_output<'a, F: Files>(
+    alloc: Global,
+    files: &mut F,
+    journal: &'a str,
+) -> Result<(), Fault<'a>>
+    ensures told { IfErr result (λ fault. fault ≡ Fault.CannotMake journal.entry) }
+    ensures stays { F.held files.new ≡ F.held files.old }
+{
+    if files.is_output(journal) {
+        remark(
+            alloc,
+            files,
+            "standard output goes into this file: name another one for --journal",
         );
         return Err(Fault::CannotMake { file: journal });
     }

@@ -102,7 +102,7 @@ returns-in_err-print-clause-unfinished g c =
     }))
 
 pub returns-in_err-print-clause-spared : goal.returns-in_err-print-clause-spared
-returns-in_err-print-clause-spared g c = λ other another. c.keep.ensures.others other another ∙ ap (λ (h : Contents). h other) (c.remark_unended.ensures.stays ∙ (c.check_writable.ensures.stays ∙ (c.spare_image.ensures.stays ∙ c.in_ok-image.ensures.stays)))
+returns-in_err-print-clause-spared g c = λ other another. c.keep.ensures.others other another ∙ ap (λ (h : Contents). h other) (c.remark_unended.ensures.stays ∙ (c.check_journal.ensures.stays ∙ c.in_ok-image.ensures.stays))
 
 pub returns-clause-ran : goal.returns-clause-ran
 returns-clause-ran g c =
@@ -147,7 +147,7 @@ returns-clause-ends g c =
     }
 
 pub returns-clause-spared : goal.returns-clause-spared
-returns-clause-spared g c = λ other another. c.keep.ensures.others other another ∙ ap (λ (h : Contents). h other) (c.remark_unended.ensures.stays ∙ (c.check_writable.ensures.stays ∙ (c.spare_image.ensures.stays ∙ c.in_ok-image.ensures.stays)))
+returns-clause-spared g c = λ other another. c.keep.ensures.others other another ∙ ap (λ (h : Contents). h other) (c.remark_unended.ensures.stays ∙ (c.check_journal.ensures.stays ∙ c.in_ok-image.ensures.stays))
 
 pub returns-in_err-print-clause-untouched : goal.returns-in_err-print-clause-untouched
 returns-in_err-print-clause-untouched g c =
@@ -158,7 +158,7 @@ returns-in_err-keep-clause-untouched g c =
     handed_up _ c.from_residual-in_err-keep.result _ c.from_residual-in_err-keep.ensures.1 (λ before. absurd (not_before _ (CannotMake c.args.wanted.journal) (λ b. b) c.in_err-keep.ensures.told before))
 
 pub returns-in_err-print-clause-image : goal.returns-in_err-print-clause-image
-returns-in_err-print-clause-image g c = c.keep.ensures.others c.args.wanted.image.now c.in_ok-spare_image.ensures.apart ∙ ap (λ (h : Contents). h c.args.wanted.image.now) (c.remark_unended.ensures.stays ∙ (c.check_writable.ensures.stays ∙ (c.spare_image.ensures.stays ∙ c.in_ok-image.ensures.stays)))
+returns-in_err-print-clause-image g c = c.keep.ensures.others c.args.wanted.image.now c.in_ok-check_journal.ensures.apart ∙ ap (λ (h : Contents). h c.args.wanted.image.now) (c.remark_unended.ensures.stays ∙ (c.check_journal.ensures.stays ∙ c.in_ok-image.ensures.stays))
 
 pub returns-clause-image : goal.returns-clause-image
-returns-clause-image g c = c.keep.ensures.others c.args.wanted.image.now c.in_ok-spare_image.ensures.apart ∙ ap (λ (h : Contents). h c.args.wanted.image.now) (c.remark_unended.ensures.stays ∙ (c.check_writable.ensures.stays ∙ (c.spare_image.ensures.stays ∙ c.in_ok-image.ensures.stays)))
+returns-clause-image g c = c.keep.ensures.others c.args.wanted.image.now c.in_ok-check_journal.ensures.apart ∙ ap (λ (h : Contents). h c.args.wanted.image.now) (c.remark_unended.ensures.stays ∙ (c.check_journal.ensures.stays ∙ c.in_ok-image.ensures.stays))
