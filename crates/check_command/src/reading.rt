@@ -9,7 +9,7 @@ use command_files::{Fault, Files, remark};
 use file_remarks::{BehindRemark, TraceRemark};
 use std::alloc::Global;
 use trace_recorder::Trace;
-use trace_text::read_trace;
+use trace_text::{TextCode, read_trace};
 
 /// The trace whose text these bytes of the file are. Where they are none, what is wrong is remarked.
 pub(crate) fn whole_trace<'a, F: Files>(
@@ -25,7 +25,9 @@ pub(crate) fn whole_trace<'a, F: Files>(
     let (trace, length) = match read_trace(alloc, bytes) {
         Ok(read) => read,
         Err(error) => {
-            remark(alloc, files, TraceRemark { bytes, error });
+            if error.code != TextCode::NoMemory {
+                remark(alloc, files, TraceRemark { bytes, error });
+            }
             return Err(Fault::text(file, error));
         }
     };

@@ -16,7 +16,7 @@ use elf_loader::{Image, LoadError, load, raw, size_of_kib};
 use file_remarks::{FileRemark, ImageRemark, ScriptRemark};
 use std::alloc::Global;
 use std::io::{self, ErrorKind, Read};
-use trace_text::{Script, TextCode, TextError, read_script};
+use trace_text::{Script, TextCause, TextCode, TextError, read_script};
 
 /// How many bytes are read of a file before the others: far more than any text's first line has.
 const FIRST: usize = 65_536;
@@ -118,6 +118,7 @@ pub fn text_in<'a, F: Files>(
         let error = TextError {
             line: 1,
             code: TextCode::Header,
+            cause: TextCause::LongLine,
         };
         return Err(Fault::Text { file: name, error });
     }
@@ -183,8 +184,9 @@ pub fn script_in<'a, F: Files>(
     match read_script(alloc, bytes.as_slice()) {
         Ok(script) => Ok(script),
         Err(error) => {
-            let bytes = bytes.as_slice();
-            remark(alloc, files, ScriptRemark { bytes, error });
+            if let Some(why) = ScriptRemark::of(error) {
+                remark(alloc, files, why);
+            }
             Err(Fault::text(name, error))
         }
     }
@@ -229,15 +231,14 @@ pub fn image_of<'a, F: Files>(
     match loaded(alloc, is_raw, bytes, size) {
         Ok(image) => Ok(image),
         Err(error) => {
-            remark(
-                alloc,
-                files,
-                ImageRemark {
+            if error != LoadError::NoMemory {
+                let why = ImageRemark {
                     bytes,
                     is_raw,
                     error,
-                },
-            );
+                };
+                remark(alloc, files, why);
+            }
             Err(Fault::image(name, error))
         }
     }

@@ -1,62 +1,27 @@
-//! The numbers that say how large a machine is.
+//! The numbers that say how large a machine is, in words.
 
-use elf_loader::is_memory_kib;
-use machine_types::{KIB_STEP, MAX_HARTS, MAX_KIB, MAX_SETS, MAX_WAYS, MIN_KIB, is_set_count};
+use machine_types::{KIB_STEP, MAX_HARTS, MAX_KIB, MAX_SETS, MAX_WAYS, MIN_KIB};
 use std::fmt::{self, Display, Formatter};
-use tl_types::LineSize;
+use trace_text::Field;
 
-/// A number of a machine's size.
-#[derive(Clone, Copy)]
-pub(crate) enum Field {
-    Harts,
-    Kib,
-    Sets,
-    Ways,
-    Line,
-}
-
-impl Field {
-    pub(crate) fn takes(self, number: u32) -> bool {
-        match self {
-            Field::Harts => (1..=MAX_HARTS).contains(&number),
-            Field::Kib => is_memory_kib(number),
-            Field::Sets => is_set_count(number),
-            Field::Ways => (1..=MAX_WAYS).contains(&number),
-            Field::Line => LineSize::of_bytes(number).is_some(),
-        }
-    }
-
-    /// What a script's help calls it.
-    pub(crate) fn name(self) -> &'static str {
-        match self {
-            Field::Harts => "HARTS",
-            Field::Kib => "KIB",
-            Field::Sets => "SETS",
-            Field::Ways => "WAYS",
-            Field::Line => "LINE",
-        }
-    }
-
-    /// The word of the command line that gives it.
-    pub(crate) fn option(self) -> &'static str {
-        match self {
-            Field::Harts => "--harts",
-            Field::Kib => "--memory",
-            Field::Sets => "--sets",
-            Field::Ways => "--ways",
-            Field::Line => "--line",
-        }
-    }
-
-    /// Which numbers it takes.
-    pub(crate) fn limits(self) -> Limits {
-        Limits(self)
+/// What a script's help calls a field.
+pub(crate) fn name_of(field: Field) -> &'static str {
+    match field {
+        Field::Harts => "HARTS",
+        Field::Kib => "KIB",
+        Field::Sets => "SETS",
+        Field::Ways => "WAYS",
+        Field::Line => "LINE",
+        Field::Hart => "HART",
+        Field::Address => "ADDRESS",
+        Field::Channel => "CHANNEL",
+        Field::Count => "COUNT",
     }
 }
 
-/// Which numbers a field takes, in words.
+/// Which numbers a field of a machine's size takes, in words.
 #[derive(Clone, Copy)]
-pub(crate) struct Limits(Field);
+pub(crate) struct Limits(pub(crate) Field);
 
 impl Display for Limits {
     fn fmt<W: fmt::Write>(&self, f: &mut Formatter<W>) -> fmt::Result {
@@ -66,6 +31,7 @@ impl Display for Limits {
             Field::Sets => write!(f, "a power of two to {MAX_SETS}"),
             Field::Ways => write!(f, "1 to {MAX_WAYS}"),
             Field::Line => f.write_str("16 or 64"),
+            Field::Hart | Field::Address | Field::Channel | Field::Count => Ok(()),
         }
     }
 }

@@ -8,7 +8,6 @@ mod field;
 mod file;
 mod flaw;
 mod form;
-mod header;
 mod image;
 mod kind;
 mod lines;

@@ -1,7 +1,8 @@
 //! What is wrong with a size that no machine has.
 
-use crate::field::Field;
+use crate::field::Limits;
 use std::fmt::{self, Display, Formatter};
+use trace_text::Field;
 
 /// Which number of a machine's size, as the command line gives it, is out of its limits.
 #[derive(Clone, Copy)]
@@ -17,15 +18,15 @@ pub struct SizeRemark {
 impl Display for SizeRemark {
     fn fmt<W: fmt::Write>(&self, f: &mut Formatter<W>) -> fmt::Result {
         let numbers = [
-            (Field::Harts, self.harts),
-            (Field::Kib, self.memory),
-            (Field::Sets, self.sets),
-            (Field::Ways, self.ways),
-            (Field::Line, self.line),
+            ("--harts", Field::Harts, self.harts),
+            ("--memory", Field::Kib, self.memory),
+            ("--sets", Field::Sets, self.sets),
+            ("--ways", Field::Ways, self.ways),
+            ("--line", Field::Line, self.line),
         ];
-        for (field, number) in numbers {
+        for (option, field, number) in numbers {
             if !field.takes(number) {
-                return write!(f, "{} is {}, not {number}", field.option(), field.limits());
+                return write!(f, "{option} is {}, not {number}", Limits(field));
             }
         }
         Ok(())

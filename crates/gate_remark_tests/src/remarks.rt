@@ -11,7 +11,7 @@ use std::fmt::Display;
 use std::io::{self, ErrorKind};
 use std::process::Abort;
 use std::test::Fail;
-use trace_text::{read_script, read_trace};
+use trace_text::{TextCause, TextCode, TextError, read_script, read_trace};
 
 /// Scripts that are refused, and what is remarked of each.
 static SCRIPTS: [(&str, &str); 36] = [
@@ -112,11 +112,11 @@ static SCRIPTS: [(&str, &str); 36] = [
     ),
     (
         "rvtl-script 1 1 4 4 2\nstep 256\n",
-        "no hart 256: the script's only hart is 0, by `rvtl-script 1 1 4 4 2`",
+        "no hart 256: a machine's harts are 0 to 7 at most",
     ),
     (
         "rvtl-script 2 6 4 4 2 64\nstep 300\n",
-        "no hart 300: the script's harts are 0 to 5, by `rvtl-script 2 6 4 4 2 64`",
+        "no hart 300: a machine's harts are 0 to 7 at most",
     ),
     (
         "rvtl-script 1 1 4 4 2\ndrain 0 2147483648\n",
@@ -149,11 +149,13 @@ fn says<T: Display>(rt: &impl Abort, alloc: Global, remark: &T, text: &str) -> R
 
 /// The script is refused, and so much is remarked of it.
 fn script_is_refused(rt: &impl Abort, alloc: Global, script: &str, text: &str) -> Result<(), Fail> {
-    let bytes = script.as_bytes();
-    let Err(error) = read_script(alloc, bytes) else {
+    let Err(error) = read_script(alloc, script.as_bytes()) else {
         panic!(rt; "a script is read, of which is wanted: {text}")
     };
-    says(rt, alloc, &ScriptRemark { bytes, error }, text)
+    let Some(remark) = ScriptRemark::of(error) else {
+        panic!(rt; "nothing is remarked, where is wanted: {text}")
+    };
+    says(rt, alloc, &remark, text)
 }
 
 #[test]
@@ -162,6 +164,16 @@ fn scripts(rt: HostRuntime) -> Result<(), Fail> {
         script_is_refused(&rt, rt.alloc(), script, text)?;
     }
     Ok(())
+}
+
+#[test]
+fn nothing_is_remarked_where_memory_ends(rt: HostRuntime) {
+    let error = TextError {
+        line: 3,
+        code: TextCode::NoMemory,
+        cause: TextCause::Unsaid,
+    };
+    same(&rt, ScriptRemark::of(error).is_none(), true);
 }
 
 /// Traces that are refused, and what is remarked of each.

@@ -19,3 +19,4 @@ mod HeaderLines
 mod WholeStops
 mod AnyLines
 mod TraceRefusals
+mod Found

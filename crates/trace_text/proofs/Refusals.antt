@@ -11,6 +11,8 @@ use Rattle.machine_types.specs.declared.event.Event.{Event}
 use Rattle.machine_types.specs.declared.event.Event.TheVariants.{Step, Drain, Evict, Deliver, Local}
 use Rattle.text_fields.specs.Reading.{after}
 use Rattle.tl_types.specs.declared.message.Channel.TheVariants.{A}
+use Rattle.trace_text.specs.Causes.{script_cause}
+use Rattle.trace_text.specs.declared.cause.TextCause.{TextCause}
 use Rattle.trace_text.specs.declared.fault.TextCode.{TextCode}
 use Rattle.trace_text.specs.declared.fault.Stop.{Stop}
 use Rattle.trace_text.specs.declared.fault.Stop.TheVariants.{Memory, Bytes}
@@ -75,10 +77,10 @@ few_lines before rest (inl first) small = subst (λ u. suc (line_feeds u) < 2 ^ 
 few_lines before [] (inr later) small = absurd (later.3 refl)
 few_lines before (b ∷ rest) (inr later) small = omega (arith, count_by-le-length (λ b. eqb b 10) before)
 
-pub refused : (bytes : List ℕ) (left line : ℕ) (rest : List ℕ) (code : TextCode) → length bytes < 2 ^ 64 → StopsScript bytes left
+pub refused : (bytes : List ℕ) (left line : ℕ) (rest : List ℕ) (code : TextCode) (cause : TextCause) → length bytes < 2 ^ 64 → StopsScript bytes left
     → (suc (line_feeds (take (length bytes - left) bytes)) < 2 ^ 64 → line ≡ suc (line_feeds (take (length bytes - left) bytes)))
-    → rest ≡ drop (length bytes - left) bytes → IsScriptCode code line rest → IsScriptRefusal bytes (record { line = line; code = code })
-refused bytes left line rest code small w numbered at fault =
+    → rest ≡ drop (length bytes - left) bytes → IsScriptCode code line rest → cause ≡ script_cause line rest → IsScriptRefusal bytes (record { line = line; code = code; cause = cause })
+refused bytes left line rest code cause small w numbered at fault caused =
     let long : length bytes ≡ length w.before + length w.rest = ap length w.parts ∙ length-append w.before w.rest in
     let n : length bytes - left ≡ length w.before = omega (arith, w.long) in
     let front : take (length bytes - left) bytes ≡ w.before = (ap (λ i. take i bytes) n ∙ ap (take (length w.before)) w.parts ∙ take-append_seam w.before w.rest) in
@@ -91,13 +93,15 @@ refused bytes left line rest code small w numbered at fault =
       ends = w.ends;
       line = numbered (subst (λ u. suc (line_feeds u) < 2 ^ 64) (sym front) few) ∙ ap (λ u. suc (line_feeds u)) front;
       code = subst (λ u. IsScriptCode code line u) back fault;
+      cause = subst (λ u. cause ≡ script_cause line u) back caused;
     }
 
-pub refused_of : (bytes : List ℕ) (stop : Stop) (least left line : ℕ) (rest : List ℕ) (code : TextCode) → stop ≡ Bytes least → left ≡ left_of stop → length bytes < 2 ^ 64 → IsScriptStop bytes stop
-    → (line_number bytes left < 2 ^ 64 → line ≡ line_number bytes left) → rest ≡ drop (length bytes - left) bytes → IsScriptCode code line rest → IsScriptRefusal bytes (record { line = line; code = code })
-refused_of bytes stop least left line rest code is same small w numbered at fault =
+pub refused_of : (bytes : List ℕ) (stop : Stop) (least left line : ℕ) (rest : List ℕ) (code : TextCode) (cause : TextCause) → stop ≡ Bytes least → left ≡ left_of stop → length bytes < 2 ^ 64 → IsScriptStop bytes stop
+    → (line_number bytes left < 2 ^ 64 → line ≡ line_number bytes left) → rest ≡ drop (length bytes - left) bytes → IsScriptCode code line rest → cause ≡ script_cause line rest
+    → IsScriptRefusal bytes (record { line = line; code = code; cause = cause })
+refused_of bytes stop least left line rest code cause is same small w numbered at fault caused =
     let same_left : left ≡ least = same ∙ ap left_of is in
-    refused bytes left line rest code small (subst (λ n. StopsScript bytes n) (sym same_left) (subst (IsScriptStop bytes) is w)) numbered at fault
+    refused bytes left line rest code cause small (subst (λ n. StopsScript bytes n) (sym same_left) (subst (IsScriptStop bytes) is w)) numbered at fault caused
 
 -- ---- first words
 

@@ -13,6 +13,7 @@ use Rattle.tl_types.specs.declared.line.LineSize.{LineSize}
 use Rattle.tl_types.specs.declared.line.LineSize.TheVariants.{Bytes16, Bytes64}
 use Rattle.machine_types.specs.declared.limits.TheConstants.{MIN_KIB}
 use Rattle.elf_loader.specs.Size.{base}
+use Rattle.trace_text.specs.Causes.{trace_cause}
 use Rattle.trace_text.specs.declared.fault.TextCode.{TextCode}
 use Rattle.trace_text.specs.declared.fault.TextCode.TheVariants.{Header, Word, Fields, Order, End, NoMemory}
 use Rattle.trace_text.specs.declared.head.TraceHead.{TraceHead}
@@ -63,7 +64,7 @@ before_is bytes before rest left parts long =
     )
 
 refused_at : (bytes before rest : List ℕ) (left line : ℕ) (found : List ℕ) (code : TextCode) → bytes ≡ before ++ rest → left ≡ length rest → AreLines before → IsTraceStart before → number_at bytes left < 2 ^ 64
-    → (number_at bytes left < 2 ^ 64 → line ≡ number_at bytes left) → found ≡ drop (length bytes - left) bytes → (line ≡ suc (line_feeds before) → found ≡ rest → IsTraceCode code line before rest) → IsTraceRefusal bytes (record { line = line; code = code })
+    → (number_at bytes left < 2 ^ 64 → line ≡ number_at bytes left) → found ≡ drop (length bytes - left) bytes → (line ≡ suc (line_feeds before) → found ≡ rest → IsTraceCode code line before rest) → IsTraceRefusal bytes (record { line = line; code = code; cause = trace_cause found })
 refused_at bytes before rest left line found code parts long lines starts few numbered at fault =
     let w = before_is bytes before rest left parts long in
     let number : line ≡ suc (line_feeds before) = numbered few ∙ ap (λ u. suc (line_feeds u)) w.0 in
@@ -75,6 +76,7 @@ refused_at bytes before rest left line found code parts long lines starts few nu
       starts = starts;
       line = number;
       code = fault number (at ∙ w.1);
+      cause = ap trace_cause (at ∙ w.1);
     }
 
 -- ---- behind a header
@@ -113,13 +115,13 @@ two_lines_before : (h : TraceHead) (before : List ℕ) → HasHead h before → 
 two_lines_before h before (more, fits, at) = subst (λ u. 2 ≤ line_feeds u) (sym at) (two_lines h more fits)
 
 refused_later : (bytes xs : List ℕ) (h : TraceHead) (left line : ℕ) (found : List ℕ) (code : TextCode) → bytes ≡ 114 ∷ xs → length bytes < 2 ^ 64 → (w : StopsIn text IsTrace trace_at bytes left) → HasHead h w.before
-    → (number_at bytes left < 2 ^ 64 → line ≡ number_at bytes left) → found ≡ drop (length bytes - left) bytes → IsLineCode h code found → IsTraceRefusal bytes (record { line = line; code = code })
+    → (number_at bytes left < 2 ^ 64 → line ≡ number_at bytes left) → found ≡ drop (length bytes - left) bytes → IsLineCode h code found → IsTraceRefusal bytes (record { line = line; code = code; cause = trace_cause found })
 refused_later bytes xs h left line found code first small w has numbered at fault =
     refused_at bytes w.before w.rest left line found code w.parts w.long w.lines w.starts (few_behind bytes xs (length bytes - left) first small)
     numbered at (λ number same. line_fault h code line w.before w.rest found has (omega (arith, number, two_lines_before h w.before has)) (no_start bytes left w) fault same)
 
 pub refused_behind : (bytes : List ℕ) (h : TraceHead) (later : List ℕ) (left line : ℕ) (found : List ℕ) (code : TextCode) → Some (h, later) ≡ head_at bytes → IsTraceLeft bytes left → length bytes < 2 ^ 64
-    → (number_at bytes left < 2 ^ 64 → line ≡ number_at bytes left) → found ≡ drop (length bytes - left) bytes → IsLineCode h code found → IsTraceRefusal bytes (record { line = line; code = code })
+    → (number_at bytes left < 2 ^ 64 → line ≡ number_at bytes left) → found ≡ drop (length bytes - left) bytes → IsLineCode h code found → IsTraceRefusal bytes (record { line = line; code = code; cause = trace_cause found })
 refused_behind bytes h later left line found code read (inl none) small numbered at fault = absurd (none-some (h, later) (sym none ∙ sym read))
 refused_behind bytes h later left line found code read (inr (w, (k, has))) small numbered at fault =
     let first = head_begins h later in
@@ -168,14 +170,14 @@ header_fault Order line before rest found early bad fault same = absurd fault
 header_fault NoMemory line before rest found early bad fault same = absurd fault
 
 refused_early : (bytes before rest : List ℕ) (left line : ℕ) (found : List ℕ) (code : TextCode) → bytes ≡ before ++ rest → left ≡ length rest → AreLines before → IsTraceStart before → line_feeds before ≤ 1 → (has_line_feed rest ≡ true → ¬ IsTraceStart (before ++ first_line rest))
-    → (number_at bytes left < 2 ^ 64 → line ≡ number_at bytes left) → found ≡ drop (length bytes - left) bytes → IsHeaderCode code found → IsTraceRefusal bytes (record { line = line; code = code })
+    → (number_at bytes left < 2 ^ 64 → line ≡ number_at bytes left) → found ≡ drop (length bytes - left) bytes → IsHeaderCode code found → IsTraceRefusal bytes (record { line = line; code = code; cause = trace_cause found })
 refused_early bytes before rest left line found code parts long lines starts few bad numbered at fault =
     let front = (before_is bytes before rest left parts long).0 in
     refused_at bytes before rest left line found code parts long lines starts (subst (λ u. suc (line_feeds u) < 2 ^ 64) (sym front) (omega (arith, few)))
     numbered at (λ number same. header_fault code line before rest found (omega (arith, number, few)) bad fault same)
 
 pub refused_ahead : (bytes : List ℕ) (left line : ℕ) (found : List ℕ) (code : TextCode) → None ≡ head_at bytes → IsHeaderLeft bytes left
-    → (number_at bytes left < 2 ^ 64 → line ≡ number_at bytes left) → found ≡ drop (length bytes - left) bytes → IsHeaderCode code found → IsTraceRefusal bytes (record { line = line; code = code })
+    → (number_at bytes left < 2 ^ 64 → line ≡ number_at bytes left) → found ≡ drop (length bytes - left) bytes → IsHeaderCode code found → IsTraceRefusal bytes (record { line = line; code = code; cause = trace_cause found })
 refused_ahead bytes left line found code read (inl (one, two, long)) numbered at fault = refused_early bytes [] bytes left line found code refl long lines_none nothing_starts (omega arith) (first_bad bytes one two) numbered at fault
 refused_ahead bytes left line found code read (inr (front, rest, is, parts, long)) numbered at fault =
     let whole = version_line front is in

@@ -7,6 +7,7 @@ use Rattle.trace_text.specs.declared.fault.TextCode.TheVariants.{Header, Word, F
 use Rattle.trace_text.specs.declared.fault.TextError.{TextError}
 use Rattle.trace_text.specs.declared.script.Head.{Head}
 use Rattle.trace_text.specs.declared.script.Script.{Script}
+use Rattle.trace_text.specs.Causes.{script_cause}
 use Rattle.trace_text.specs.Scripts.{event, head, is_head, text, IsEvent, IsScript}
 
 -- how many lines these bytes end
@@ -58,3 +59,4 @@ pub record IsScriptRefusal (bytes : List ℕ) (fault : TextError) : Type 0 where
   pub ends : EndsScript before rest
   pub line : fault.line ≡ suc (line_feeds before)
   pub code : IsScriptCode fault.code fault.line rest
+  pub cause : fault.cause ≡ script_cause fault.line rest

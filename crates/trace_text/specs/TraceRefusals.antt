@@ -6,6 +6,7 @@ use Rattle.trace_text.specs.declared.fault.TextCode.TheVariants.{Header, Word, F
 use Rattle.trace_text.specs.declared.fault.TextError.{TextError}
 use Rattle.trace_text.specs.declared.head.TraceHead.{TraceHead}
 use Rattle.trace_text.specs.AnyLines.{IsTraceLine}
+use Rattle.trace_text.specs.Causes.{trace_cause}
 use Rattle.trace_text.specs.Refusals.{line_feeds, has_line_feed, first_word}
 use Rattle.trace_text.specs.TraceLimits.{IsTrace}
 use Rattle.trace_text.specs.TraceHeads.{IsTraceHead}
@@ -54,3 +55,4 @@ pub record IsTraceRefusal (bytes : List ℕ) (fault : TextError) : Type 0 where
   pub starts : IsTraceStart before
   pub line : fault.line ≡ suc (line_feeds before)
   pub code : IsTraceCode fault.code fault.line before rest
+  pub cause : fault.cause ≡ trace_cause rest

@@ -4,6 +4,7 @@ ghost use Rattle.text_fields.specs.Reading as reads;
 ghost use Rattle.trace_text.specs.Faults.{text_code_number};
 ghost use Rattle.trace_text.specs.Stops.{left_of, line_number, is_parted};
 
+use crate::cause::TextCause;
 use text_fields::after;
 use thiserror::Error;
 
@@ -40,11 +41,12 @@ impl TextCode {
     }
 }
 
-/// The first line that can't be read, counted from 1, and what is wrong with it.
+/// The first line that can't be read, counted from 1, and what is wrong with it: by a code, and by what stands there.
 #[derive(Clone, Copy, Debug, PartialEq, Eq)]
 pub struct TextError {
     pub line: usize,
     pub code: TextCode,
+    pub cause: TextCause,
 }
 
 /// What ended a reader, and how many bytes were left from the line that it then read.

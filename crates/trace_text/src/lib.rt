@@ -2,11 +2,13 @@
 //! one line feed. Each value has one spelling.
 #![tactic(auto)]
 
+mod cause;
 mod fault;
 mod head;
 mod message_reading;
 mod reading;
 mod script;
+mod script_causes;
 mod script_faults;
 mod script_reading;
 mod script_writing;
@@ -16,7 +18,9 @@ mod trace_lines;
 mod trace_reading;
 mod trace_writing;
 mod version;
+mod words;
 
+pub use cause::{Field, Form, Misfit, TextCause, Wrong};
 pub use fault::{TextCode, TextError};
 pub use script::{Events, Script};
 pub use script_reading::read_script;

@@ -4,7 +4,9 @@ ghost use Rattle.trace_text.specs.Reading.{IsFaultOf};
 ghost use Rattle.trace_text.specs.Refusals.{has_line_feed, first_word, IsEventWord, IsScriptCode, IsScriptRefusal};
 ghost use Rattle.trace_text.specs.Stops.{IsScriptStop};
 
+use crate::cause::TextCause;
 use crate::fault::{Stop, TextCode, TextError, is_word, line_at};
+use crate::script_causes::script_cause;
 
 /// The fault of a script whose reader stopped there.
 pub(crate) fn script_fault(bytes: &[u8], stop: Stop) -> TextError
@@ -17,10 +19,12 @@ pub(crate) fn script_fault(bytes: &[u8], stop: Stop) -> TextError
         Stop::Memory { .. } => TextError {
             line,
             code: TextCode::NoMemory,
+            cause: TextCause::Unsaid,
         },
         Stop::Bytes { .. } => TextError {
             line,
             code: code_at(line, rest),
+            cause: script_cause(line, rest),
         },
     }
 }

@@ -3,6 +3,7 @@ ghost use Rattle.std.specs.Prelude.{◌≡◌, ◌↔◌, IsTrue, true, Contains
 ghost use Rattle.std.specs.Option.{option_map};
 ghost use Rattle.trace_text.specs.AnyLineReading.{left, numbers_at, image_fields_at, hart_at, retired_fields_at, status_fields_at, line_left};
 ghost use Rattle.trace_text.specs.AnyLines.{IsTraceLine};
+ghost use Rattle.trace_text.specs.Causes.{trace_cause};
 ghost use Rattle.trace_text.specs.Reading.{IsFaultOf};
 ghost use Rattle.trace_text.specs.Refusals.{has_line_feed, first_word};
 ghost use Rattle.trace_text.specs.TraceHeads.{IsTraceHead};
@@ -10,6 +11,7 @@ ghost use Rattle.trace_text.specs.TraceLines as reads;
 ghost use Rattle.trace_text.specs.TraceRefusals.{first_line, line_words, IsTraceRefusal};
 ghost use Rattle.trace_text.specs.TraceStops.{IsTraceLeft, IsTraceStop, IsHeaderLeft, IsHeaderCode, IsLineCode};
 
+use crate::cause::TextCause;
 use crate::fault::{Stop, TextCode, TextError, is_word, line_at};
 use crate::head::TraceHead;
 use crate::message_reading::data_at;
@@ -20,7 +22,8 @@ use crate::trace_lines::{
 };
 use crate::trace_writing::any_set;
 use crate::version::is_first_version;
-use text_fields::{after, number_at};
+use crate::words::line_text;
+use text_fields::{Excerpt, after, number_at};
 
 /// The fault of a trace whose reader stopped there.
 pub(crate) fn trace_fault(bytes: &[u8], stop: Stop) -> TextError
@@ -34,6 +37,7 @@ pub(crate) fn trace_fault(bytes: &[u8], stop: Stop) -> TextError
             TextError {
                 line,
                 code: TextCode::NoMemory,
+                cause: TextCause::Unsaid,
             }
         }
         Stop::Bytes { left } => fault_at(bytes, left),
@@ -51,6 +55,7 @@ fn fault_at(bytes: &[u8], left: usize) -> TextError
             TextError {
                 line,
                 code: header_code(rest),
+                cause: trace_cause(rest),
             }
         }
         Some((head, _)) => {
@@ -58,9 +63,18 @@ fn fault_at(bytes: &[u8], left: usize) -> TextError
             TextError {
                 line,
                 code: code_at(rest, &head),
+                cause: trace_cause(rest),
             }
         }
     }
+}
+
+/// The line that begins here.
+fn trace_cause(rest: &[u8]) -> TextCause
+    ensures { result ≡ trace_cause rest.now }
+{
+    let line = Excerpt::of(line_text(rest));
+    TextCause::Trace { line }
 }
 
 /// What is wrong with the line that begins here, behind a header.
