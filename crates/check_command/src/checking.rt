@@ -11,7 +11,7 @@ ghost use Rattle.command_files.specs.Faults.{LeavesAtFault};
 use crate::reading::whole_trace;
 use command_files::{Fault, Files, remark, text_in};
 use machine_types::MemoryModel;
-use order_remarks::{LengthRemark, NamingRemark, OrderRemark, RunRemark};
+use notes::{LengthNote, NamingNote, OrderNote, RunNote};
 use rvwmo_order::{CheckError, Verdict, check_model};
 use std::alloc::Global;
 use std::io::{self, Write};
@@ -47,7 +47,7 @@ pub fn check_file<'a, F: Files, O: Write>(
         remark(
             alloc,
             files,
-            OrderRemark {
+            OrderNote {
                 trace: &trace,
                 code,
                 first,
@@ -66,9 +66,9 @@ fn remark_unjudged<F: Files>(alloc: Global, files: &mut F, trace: &Trace, error:
     ensures { F.held files.new ≡ F.held files.old }
 {
     match error {
-        CheckError::NotARun => remark(alloc, files, RunRemark(trace)),
-        CheckError::TooLong => remark(alloc, files, LengthRemark(trace)),
-        CheckError::NotAnOrder => remark(alloc, files, NamingRemark(trace)),
+        CheckError::NotARun => remark(alloc, files, RunNote(trace)),
+        CheckError::TooLong => remark(alloc, files, LengthNote(trace)),
+        CheckError::NotAnOrder => remark(alloc, files, NamingNote(trace)),
         CheckError::NoMemory => {}
     }
 }

@@ -6,7 +6,7 @@ ghost use Rattle.trace_text.specs.TraceLimits.{IsTrace};
 ghost use Rattle.trace_text.specs.Traces.{text};
 
 use command_files::{Fault, Files, remark};
-use file_remarks::{BehindRemark, TraceRemark};
+use notes::{BehindNote, TraceNote};
 use std::alloc::Global;
 use trace_recorder::Trace;
 use trace_text::{TextCode, read_trace};
@@ -26,13 +26,13 @@ pub(crate) fn whole_trace<'a, F: Files>(
         Ok(read) => read,
         Err(error) => {
             if error.code != TextCode::NoMemory {
-                remark(alloc, files, TraceRemark { bytes, error });
+                remark(alloc, files, TraceNote { bytes, error });
             }
             return Err(Fault::text(file, error));
         }
     };
     if length < bytes.len() {
-        remark(alloc, files, BehindRemark { bytes, length });
+        remark(alloc, files, BehindNote { bytes, length });
         return Err(Fault::BytesAfterTrace { file });
     }
     Ok(trace)

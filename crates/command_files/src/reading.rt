@@ -13,7 +13,7 @@ use crate::fault::Fault;
 use crate::files::Files;
 use crate::remarked::remark;
 use elf_loader::{Image, LoadError, load, raw, size_of_kib};
-use file_remarks::{FileRemark, ImageRemark, ScriptRemark};
+use notes::{FileNote, ImageNote, ScriptNote};
 use std::alloc::Global;
 use std::io::{self, ErrorKind, Read};
 use trace_text::{Script, TextCause, TextCode, TextError, read_script};
@@ -132,7 +132,7 @@ fn unread<'a, F: Files>(alloc: Global, files: &mut F, name: &'a str, error: io::
     ensures stays { F.held files.new ≡ F.held files.old }
 {
     if error.kind() != ErrorKind::OutOfMemory {
-        remark(alloc, files, FileRemark(error));
+        remark(alloc, files, FileNote(error));
     }
     Fault::reading(name, error)
 }
@@ -164,7 +164,7 @@ pub fn unmade<'a, F: Files>(
     ensures stays { F.held files.new ≡ F.held files.old }
 {
     if error.kind() != ErrorKind::OutOfMemory {
-        remark(alloc, files, FileRemark(error));
+        remark(alloc, files, FileNote(error));
     }
     Fault::making(name, error)
 }
@@ -184,7 +184,7 @@ pub fn script_in<'a, F: Files>(
     match read_script(alloc, bytes.as_slice()) {
         Ok(script) => Ok(script),
         Err(error) => {
-            if let Some(why) = ScriptRemark::of(error) {
+            if let Some(why) = ScriptNote::of(error) {
                 remark(alloc, files, why);
             }
             Err(Fault::text(name, error))
@@ -232,7 +232,7 @@ pub fn image_of<'a, F: Files>(
         Ok(image) => Ok(image),
         Err(error) => {
             if error != LoadError::NoMemory {
-                let why = ImageRemark {
+                let why = ImageNote {
                     bytes,
                     is_raw,
                     error,

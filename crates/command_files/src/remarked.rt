@@ -7,7 +7,7 @@ use crate::fault::Fault;
 use crate::files::Files;
 use coherent_machine::ApplyError;
 use command_settings::MachineOptions;
-use file_remarks::{EventRemark, OutsideRemark, SizeRemark};
+use notes::{EventNote, OutsideNote, SizeNote};
 use std::alloc::Global;
 use std::fmt::Display;
 use std::io;
@@ -84,7 +84,7 @@ pub fn remark_refused<F: Files>(alloc: Global, files: &mut F, script: &Script, f
     let index = line.saturating_sub(2);
     if let Some(event) = script.events.as_slice().get(index) {
         let event = *event;
-        remark(alloc, files, EventRemark { event, script });
+        remark(alloc, files, EventNote { event, script });
     }
 }
 
@@ -95,7 +95,7 @@ pub fn remark_outside<F: Files>(alloc: Global, files: &mut F, address: Option<u3
     let Some(address) = address else {
         return;
     };
-    if let Some(outside) = OutsideRemark::of(address, script) {
+    if let Some(outside) = OutsideNote::of(address, script) {
         remark(alloc, files, outside);
     }
 }
@@ -120,7 +120,7 @@ pub fn out_of_limits<'a, F: Files>(
     remark(
         alloc,
         files,
-        SizeRemark {
+        SizeNote {
             harts,
             memory,
             sets,

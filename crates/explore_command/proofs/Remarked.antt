@@ -8,8 +8,8 @@ use Rattle.explore_command.proofs.Refused.{behind_first, nothing}
 use Rattle.architecture_outcomes.specs.declared.outcome.Way.{Way}
 use Rattle.architecture_outcomes.specs.declared.outcome.Way.TheVariants.{Machine, Model, ModelAlone}
 use Rattle.command_files.specs.Faults.{Name}
-use Rattle.order_remarks.specs.Overtaking.{overtakings}
-use Rattle.order_remarks.specs.declared.overtaking.Overtaking.{Overtaking}
+use Rattle.notes.specs.Overtaking.{overtakings}
+use Rattle.notes.specs.declared.overtaking.Overtaking.{Overtaking}
 use Rattle.explore_command.proofs.Shown.{first_is}
 
 none_of : {A : Type 0} (xs : List A) → length xs < 1 → xs ≡ []

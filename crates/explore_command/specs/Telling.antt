@@ -4,8 +4,8 @@ use Rattle.architecture_outcomes.specs.declared.outcome.Outcome.{Outcome}
 use Rattle.architecture_outcomes.specs.declared.outcome.Way.{Way}
 use Rattle.architecture_outcomes.specs.declared.outcome.Way.TheVariants.{Machine, Model, ModelAlone}
 use Rattle.command_files.specs.Faults.{Name}
-use Rattle.order_remarks.specs.Overtaking.{overtakings}
-use Rattle.order_remarks.specs.declared.overtaking.Overtaking.{Overtaking}
+use Rattle.notes.specs.Overtaking.{overtakings}
+use Rattle.notes.specs.declared.overtaking.Overtaking.{Overtaking}
 use Rattle.text_fields.specs.Writing.{Begins}
 
 -- a list grew by what P holds of

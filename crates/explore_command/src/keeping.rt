@@ -14,8 +14,8 @@ ghost use Rattle.trace_text.specs.Scripts.{text};
 use command_files::{Escaped, Fault, Files, remark, script_of};
 use command_settings::Explore;
 use explorer::{Exploration, Found, Realisation};
-use file_remarks::FileRemark;
 use machine_types::{Config, Event};
+use notes::FileNote;
 use std::alloc::{AllocError, Global};
 use std::fmt::{self, Display, Formatter};
 use std::io::{self, ErrorKind};
@@ -273,7 +273,7 @@ impl<'a> Folder<'a> {
     {
         if error.kind() != ErrorKind::OutOfMemory {
             let path = Escaped(path);
-            let why = FileRemark(error);
+            let why = FileNote(error);
             remark(self.alloc, files, format_args!("{path}: {why}"));
         }
         Fault::making(self.name, error)

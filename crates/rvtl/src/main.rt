@@ -7,7 +7,7 @@ use crate::streams::{Messages, Output};
 use command_files::{Remarked, SystemFiles, WithInput};
 use command_line::run_line;
 use exit_codes::code_of;
-use file_remarks::FileRemark;
+use notes::FileNote;
 use progress_line::ProgressLine;
 use std::cell::Cell;
 use std::env;
@@ -72,7 +72,7 @@ fn run<
         &progress,
     );
     if let Some(error) = lost.get() {
-        let _ = writeln!(err, "note: {}", FileRemark(error));
+        let _ = writeln!(err, "note: {}", FileNote(error));
     }
     if let Some(remark) = files.last() {
         let _ = writeln!(err, "note: {remark}");

@@ -2,10 +2,10 @@
 
 ghost use Rattle.std.specs.Prelude.{IfOk, OnOk};
 ghost use Rattle.explore_command.specs.Telling.{AreRemarks, GrowsBy, IsRemark, TellsWay, TellsWays};
-ghost use Rattle.order_remarks.specs.Overtaking.{overtakings};
+ghost use Rattle.notes.specs.Overtaking.{overtakings};
 
 use architecture_outcomes::{Outcome, Way};
-use order_remarks::{OvertakingRemark, overtakings};
+use notes::{OvertakingNote, overtakings};
 use std::alloc::{AllocError, Global};
 use trace_recorder::Trace;
 
@@ -46,7 +46,7 @@ fn add_overtakings(
     let mut rest = pairs.as_slice();
     while let [first, tail @ ..] = rest {
         let overtaking = *first;
-        add_remark(alloc, lines, number, OvertakingRemark { trace, overtaking })?;
+        add_remark(alloc, lines, number, OvertakingNote { trace, overtaking })?;
         rest = tail;
     }
     Ok(())
@@ -56,7 +56,7 @@ fn add_remark(
     alloc: Global,
     lines: &mut Vec<u8>,
     number: usize,
-    remark: OvertakingRemark<'_>,
+    remark: OvertakingNote<'_>,
 ) -> Result<(), AllocError>
     ensures { OnOk result (GrowsBy lines.old.items lines.new.items (IsRemark number)) }
 {

@@ -1,6 +1,6 @@
 use Rattle.std.proofs.Common.{length}
 use Rattle.explore_command.proofs.Remarked.{HasTold}
-use Rattle.order_remarks.specs.Overtaking.{overtakings}
+use Rattle.notes.specs.Overtaking.{overtakings}
 use Rattle.explore_command.proofs.architecture.telling.add_overtakings.Given as goal
 
 abbrev pub invariant-loop-rest : goal.invariant-loop-rest

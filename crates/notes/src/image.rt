@@ -1,6 +1,6 @@
 //! What is wrong with a program.
 
-use crate::elf::{ElfRemark, MORE_MEMORY};
+use crate::elf::{ElfNote, MORE_MEMORY};
 use crate::kind::Kind;
 use elf_loader::LoadError;
 use std::fmt::{self, Display, Formatter};
@@ -10,14 +10,14 @@ const FIRST: usize = 64;
 
 /// What is wrong with the bytes of a program, which was refused so.
 #[derive(Clone, Copy)]
-pub struct ImageRemark<'a> {
+pub struct ImageNote<'a> {
     pub bytes: &'a [u8],
     /// Whether they were to be bare words.
     pub is_raw: bool,
     pub error: LoadError,
 }
 
-impl Display for ImageRemark<'_> {
+impl Display for ImageNote<'_> {
     fn fmt<W: fmt::Write>(&self, f: &mut Formatter<W>) -> fmt::Result {
         let kind = Kind::of(self.bytes);
         match kind {
@@ -35,7 +35,7 @@ impl Display for ImageRemark<'_> {
             f.write_str("this is no ELF file: bare words take --raw")
         } else {
             let Self { bytes, error, .. } = *self;
-            write!(f, "{}", ElfRemark { bytes, error })
+            write!(f, "{}", ElfNote { bytes, error })
         }
     }
 }

@@ -2,7 +2,7 @@
 
 ghost use Rattle.std.specs.Prelude.{◌≡◌, ◌<◌, IfOk, None, Some, true};
 ghost use Rattle.memory_model.specs.Rules.{fences, is_in_set};
-ghost use Rattle.order_remarks.specs.Overtaking as spec;
+ghost use Rattle.notes.specs.Overtaking as spec;
 
 use memory_model::{Kind, Operation};
 use rv32_decode::{FenceSet, FenceSets, Instr};

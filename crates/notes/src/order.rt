@@ -14,14 +14,14 @@ use trace_recorder::{OpId, Trace};
 /// What the order of a trace breaks by a code, with the two operations that show it as HART:PLACE and as an
 /// assembler writes them.
 #[derive(Clone, Copy)]
-pub struct OrderRemark<'a> {
+pub struct OrderNote<'a> {
     pub trace: &'a Trace,
     pub code: Code,
     pub first: OpId,
     pub second: OpId,
 }
 
-impl Display for OrderRemark<'_> {
+impl Display for OrderNote<'_> {
     fn fmt<W: fmt::Write>(&self, f: &mut Formatter<W>) -> fmt::Result {
         put_operation(self.trace, self.first, f)?;
         match self.code {
@@ -47,12 +47,12 @@ impl Display for OrderRemark<'_> {
 
 /// An operation of a trace that overtakes another, and what would forbid that.
 #[derive(Clone, Copy)]
-pub struct OvertakingRemark<'a> {
+pub struct OvertakingNote<'a> {
     pub trace: &'a Trace,
     pub overtaking: Overtaking,
 }
 
-impl Display for OvertakingRemark<'_> {
+impl Display for OvertakingNote<'_> {
     fn fmt<W: fmt::Write>(&self, f: &mut Formatter<W>) -> fmt::Result {
         let Overtaking { first, second } = self.overtaking;
         put_operation(self.trace, name_of(&second), f)?;

@@ -12,19 +12,19 @@ use trace_text::{Field, Form, Misfit, TextCause, TextCode, TextError, Wrong};
 
 /// What is wrong with a script that was refused so.
 #[derive(Clone, Copy)]
-pub struct ScriptRemark(TextError);
+pub struct ScriptNote(TextError);
 
-impl ScriptRemark {
+impl ScriptNote {
     /// None where memory was refused, so that nothing is known of the script.
-    pub fn of(error: TextError) -> Option<ScriptRemark> {
+    pub fn of(error: TextError) -> Option<ScriptNote> {
         match error.cause {
             TextCause::Unsaid => None,
-            _ => Some(ScriptRemark(error)),
+            _ => Some(ScriptNote(error)),
         }
     }
 }
 
-impl Display for ScriptRemark {
+impl Display for ScriptNote {
     fn fmt<W: fmt::Write>(&self, f: &mut Formatter<W>) -> fmt::Result {
         match self.0.cause {
             TextCause::LongLine => f.write_str("no line ends in its first 65536 bytes"),

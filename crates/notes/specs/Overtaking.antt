@@ -5,7 +5,7 @@ use Rattle.memory_model.specs.Traces.{instructions, operations_at}
 use Rattle.memory_model.specs.declared.operation.Kind.{Kind}
 use Rattle.memory_model.specs.declared.operation.Kind.TheVariants.{Load, Store, Lr, Sc, Amo}
 use Rattle.memory_model.specs.declared.operation.Operation.{Operation}
-use Rattle.order_remarks.specs.declared.overtaking.Overtaking.{Overtaking}
+use Rattle.notes.specs.declared.overtaking.Overtaking.{Overtaking}
 use Rattle.rv32_decode.specs.declared.instruction.Instr.{Instr}
 use Rattle.rv32_decode.specs.declared.instruction.Instr.TheVariants as instr
 use Rattle.trace_recorder.specs.History.{History}

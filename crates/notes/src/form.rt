@@ -31,7 +31,7 @@ impl Form {
 
 /// What is wrong with a line that isn't of its form.
 #[derive(Clone, Copy)]
-pub(crate) struct FormRemark<'a> {
+pub(crate) struct FormNote<'a> {
     pub(crate) form: Form,
     pub(crate) line: &'a [u8],
     pub(crate) machine: Machine,
@@ -39,7 +39,7 @@ pub(crate) struct FormRemark<'a> {
     pub(crate) sizes: &'a [u8],
 }
 
-impl Display for FormRemark<'_> {
+impl Display for FormNote<'_> {
     fn fmt<W: fmt::Write>(&self, f: &mut Formatter<W>) -> fmt::Result {
         match self.flaw() {
             Some(flaw) if flaw.is_by_size() => write!(f, "{flaw}, by {}", Quoted(self.sizes)),
@@ -49,7 +49,7 @@ impl Display for FormRemark<'_> {
     }
 }
 
-impl<'a> FormRemark<'a> {
+impl<'a> FormNote<'a> {
     /// What is wrong with the first word that isn't what the form names.
     fn flaw(&self) -> Option<Flaw<'a>> {
         for index in 1..MOST {

@@ -30,12 +30,12 @@ const MOST_HEADERS: u32 = 16;
 
 /// What is wrong with the bytes of an ELF file, which was refused so.
 #[derive(Clone, Copy)]
-pub(crate) struct ElfRemark<'a> {
+pub(crate) struct ElfNote<'a> {
     pub(crate) bytes: &'a [u8],
     pub(crate) error: LoadError,
 }
 
-impl Display for ElfRemark<'_> {
+impl Display for ElfNote<'_> {
     fn fmt<W: fmt::Write>(&self, f: &mut Formatter<W>) -> fmt::Result {
         match self.error {
             LoadError::Short => f.write_str("the file ends within its header"),
@@ -61,7 +61,7 @@ impl Display for ElfRemark<'_> {
     }
 }
 
-impl ElfRemark<'_> {
+impl ElfNote<'_> {
     /// The two bytes at this place as a number, 0 where the file has none.
     fn half(&self, at: usize) -> u32 {
         match self.bytes.get(at..) {

@@ -1,11 +1,9 @@
-//! The texts of remarks.
+//! The texts of notes.
 
 use crate::same::same;
 use elf_loader::{LoadError, load, raw};
-use file_remarks::{
-    BehindRemark, EventRemark, FileRemark, ImageRemark, ScriptRemark, SizeRemark, TraceRemark,
-};
 use machine_types::Event;
+use notes::{BehindNote, EventNote, FileNote, ImageNote, ScriptNote, SizeNote, TraceNote};
 use std::alloc::Global;
 use std::fmt::Display;
 use std::io::{self, ErrorKind};
@@ -13,7 +11,7 @@ use std::process::Abort;
 use std::test::Fail;
 use trace_text::{TextCause, TextCode, TextError, read_script, read_trace};
 
-/// Scripts that are refused, and what is remarked of each.
+/// Scripts that are refused, and what is noted of each.
 static SCRIPTS: [(&str, &str); 36] = [
     ("", "this is an empty file, and a script is wanted"),
     (
@@ -140,22 +138,22 @@ static SCRIPTS: [(&str, &str); 36] = [
     ),
 ];
 
-/// The remark's text.
-fn says<T: Display>(rt: &impl Abort, alloc: Global, remark: &T, text: &str) -> Result<(), Fail> {
-    let told = format!(in alloc; "{remark}")?;
+/// The note's text.
+fn says<T: Display>(rt: &impl Abort, alloc: Global, note: &T, text: &str) -> Result<(), Fail> {
+    let told = format!(in alloc; "{note}")?;
     same(rt, told.as_str(), text);
     Ok(())
 }
 
-/// The script is refused, and so much is remarked of it.
+/// The script is refused, and so much is noted of it.
 fn script_is_refused(rt: &impl Abort, alloc: Global, script: &str, text: &str) -> Result<(), Fail> {
     let Err(error) = read_script(alloc, script.as_bytes()) else {
         panic!(rt; "a script is read, of which is wanted: {text}")
     };
-    let Some(remark) = ScriptRemark::of(error) else {
-        panic!(rt; "nothing is remarked, where is wanted: {text}")
+    let Some(note) = ScriptNote::of(error) else {
+        panic!(rt; "nothing is noted, where is wanted: {text}")
     };
-    says(rt, alloc, &remark, text)
+    says(rt, alloc, &note, text)
 }
 
 #[test]
@@ -167,16 +165,16 @@ fn scripts(rt: HostRuntime) -> Result<(), Fail> {
 }
 
 #[test]
-fn nothing_is_remarked_where_memory_ends(rt: HostRuntime) {
+fn nothing_is_noted_where_memory_ends(rt: HostRuntime) {
     let error = TextError {
         line: 3,
         code: TextCode::NoMemory,
         cause: TextCause::Unsaid,
     };
-    same(&rt, ScriptRemark::of(error).is_none(), true);
+    same(&rt, ScriptNote::of(error).is_none(), true);
 }
 
-/// Traces that are refused, and what is remarked of each.
+/// Traces that are refused, and what is noted of each.
 static TRACES: [(&str, &str); 49] = [
     (
         "rvtl-script 1 1 4 4 2\n",
@@ -376,13 +374,13 @@ static TRACES: [(&str, &str); 49] = [
     ),
 ];
 
-/// The trace is refused, and so much is remarked of it.
+/// The trace is refused, and so much is noted of it.
 fn trace_is_refused(rt: &impl Abort, alloc: Global, trace: &str, text: &str) -> Result<(), Fail> {
     let bytes = trace.as_bytes();
     let Err(error) = read_trace(alloc, bytes) else {
         panic!(rt; "a trace is read, of which is wanted: {text}")
     };
-    says(rt, alloc, &TraceRemark { bytes, error }, text)
+    says(rt, alloc, &TraceNote { bytes, error }, text)
 }
 
 #[test]
@@ -398,7 +396,7 @@ fn what_stands_behind_a_trace(rt: HostRuntime) -> Result<(), Fail> {
     let bytes = b"rvtl-trace 1\nT 1 4 0x80000000\nH 0 run\nH 0 run\n".as_slice();
     let (_, length) = read_trace(rt.alloc(), bytes)?;
     let text = "line 4, `H 0 run`, stands behind the last hart's H line, which ends a trace";
-    says(&rt, rt.alloc(), &BehindRemark { bytes, length }, text)
+    says(&rt, rt.alloc(), &BehindNote { bytes, length }, text)
 }
 
 /// The head of an ELF file for RISC-V in 32 bits, little-endian, with compressed and floating-point code.
@@ -407,7 +405,7 @@ const FLOATING: [u8; 52] = [
     0x80, 52, 0, 0, 0, 0, 0, 0, 0, 5, 0, 0, 0, 52, 0, 32, 0, 0, 0, 0, 0, 0, 0, 0, 0,
 ];
 
-/// Programs that are refused, whether as bare words, and what is remarked of each.
+/// Programs that are refused, whether as bare words, and what is noted of each.
 static IMAGES: [(&[u8], bool, &str); 6] = [
     (&[0; 4], false, "this is no ELF file: bare words take --raw"),
     (
@@ -454,7 +452,7 @@ fn image_fault(alloc: Global, bytes: &[u8], is_raw: bool) -> Option<LoadError> {
     }
 }
 
-/// The bytes are no program for 4 KiB of memory, and so much is remarked of them.
+/// The bytes are no program for 4 KiB of memory, and so much is noted of them.
 fn image_is_refused(
     rt: &impl Abort,
     alloc: Global,
@@ -465,12 +463,12 @@ fn image_is_refused(
     let Some(error) = image_fault(alloc, bytes, is_raw) else {
         panic!(rt; "a program is loaded, of which is wanted: {text}")
     };
-    let remark = ImageRemark {
+    let note = ImageNote {
         bytes,
         is_raw,
         error,
     };
-    says(rt, alloc, &remark, text)
+    says(rt, alloc, &note, text)
 }
 
 /// An ELF file of one segment: four bytes of the file, behind its headers, at 0x80000000.
@@ -481,7 +479,7 @@ static LINKED: [u8; 88] = [
     0x13, 0, 0, 0,
 ];
 
-/// Bytes of that file, each by its place and as it is set, and what is remarked of the file then.
+/// Bytes of that file, each by its place and as it is set, and what is noted of the file then.
 static CHANGES: [(usize, u8, &str); 14] = [
     (16, 1, "this is an object file, which isn't linked"),
     (
@@ -564,7 +562,7 @@ fn linked_files(rt: HostRuntime) -> Result<(), Fail> {
     Ok(())
 }
 
-/// Events that a machine of 2 harts, 4 KiB and lines of 16 bytes hasn't, and what is remarked of each.
+/// Events that a machine of 2 harts, 4 KiB and lines of 16 bytes hasn't, and what is noted of each.
 static EVENTS: [(Event, &str); 4] = [
     (
         Event::Step { hart: 3 },
@@ -594,22 +592,22 @@ static EVENTS: [(Event, &str); 4] = [
 fn events(rt: HostRuntime) -> Result<(), Fail> {
     let script = read_script(rt.alloc(), b"rvtl-script 1 2 4 4 2\n")?;
     for (event, text) in &EVENTS {
-        let remark = EventRemark {
+        let note = EventNote {
             event: *event,
             script: &script,
         };
-        says(&rt, rt.alloc(), &remark, text)?;
+        says(&rt, rt.alloc(), &note, text)?;
     }
     Ok(())
 }
 
 #[test]
 fn files(rt: HostRuntime) -> Result<(), Fail> {
-    let remark = FileRemark(io::Error::from(ErrorKind::NotFound));
-    says(&rt, rt.alloc(), &remark, "there is no such file or folder")
+    let note = FileNote(io::Error::from(ErrorKind::NotFound));
+    says(&rt, rt.alloc(), &note, "there is no such file or folder")
 }
 
-/// Sizes that no machine has, and what is remarked of each; the last one is a machine's.
+/// Sizes that no machine has, and what is noted of each; the last one is a machine's.
 const SIZES: [([u32; 5], &str); 6] = [
     ([9, 64, 4, 2, 16], "--harts is 1 to 8, not 9"),
     (
@@ -626,14 +624,14 @@ const SIZES: [([u32; 5], &str); 6] = [
 fn sizes(rt: HostRuntime) -> Result<(), Fail> {
     for (size, text) in &SIZES {
         let [harts, memory, sets, ways, line] = *size;
-        let remark = SizeRemark {
+        let note = SizeNote {
             harts,
             memory,
             sets,
             ways,
             line,
         };
-        says(&rt, rt.alloc(), &remark, text)?;
+        says(&rt, rt.alloc(), &note, text)?;
     }
     Ok(())
 }

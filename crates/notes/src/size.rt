@@ -6,7 +6,7 @@ use trace_text::Field;
 
 /// Which number of a machine's size, as the command line gives it, is out of its limits.
 #[derive(Clone, Copy)]
-pub struct SizeRemark {
+pub struct SizeNote {
     pub harts: u32,
     /// In KiB.
     pub memory: u32,
@@ -15,7 +15,7 @@ pub struct SizeRemark {
     pub line: u32,
 }
 
-impl Display for SizeRemark {
+impl Display for SizeNote {
     fn fmt<W: fmt::Write>(&self, f: &mut Formatter<W>) -> fmt::Result {
         let numbers = [
             ("--harts", Field::Harts, self.harts),

@@ -1,7 +1,7 @@
 //! What is wrong with a trace.
 
 use crate::flaw::Flaw;
-use crate::form::{Form, FormRemark};
+use crate::form::{Form, FormNote};
 use crate::kind::Kind;
 use crate::lines::{UNENDED, blemish_of, first_word, line_of, number_of_line, word_of};
 use crate::machine::Machine;
@@ -12,12 +12,12 @@ use trace_text::{TextCode, TextError};
 
 /// What is wrong with the bytes of a trace, which was refused so.
 #[derive(Clone, Copy)]
-pub struct TraceRemark<'a> {
+pub struct TraceNote<'a> {
     pub bytes: &'a [u8],
     pub error: TextError,
 }
 
-impl Display for TraceRemark<'_> {
+impl Display for TraceNote<'_> {
     fn fmt<W: fmt::Write>(&self, f: &mut Formatter<W>) -> fmt::Result {
         let line = line_of(self.bytes, self.error.line);
         match Kind::of(self.bytes) {
@@ -45,7 +45,7 @@ impl Display for TraceRemark<'_> {
     }
 }
 
-impl TraceRemark<'_> {
+impl TraceNote<'_> {
     /// What is wrong with a line behind the first two that begins as lines of traces do.
     fn misplaced_or_misformed<W: fmt::Write>(
         &self,
@@ -67,12 +67,12 @@ impl TraceRemark<'_> {
 
 /// What stands behind a trace of so many bytes.
 #[derive(Clone, Copy)]
-pub struct BehindRemark<'a> {
+pub struct BehindNote<'a> {
     pub bytes: &'a [u8],
     pub length: usize,
 }
 
-impl Display for BehindRemark<'_> {
+impl Display for BehindNote<'_> {
     fn fmt<W: fmt::Write>(&self, f: &mut Formatter<W>) -> fmt::Result {
         let number = number_of_line(self.bytes, self.length);
         let line = line_of(self.bytes, number);
@@ -122,8 +122,8 @@ fn sizes_of(bytes: &[u8]) -> &'static str {
 }
 
 // What is wrong with a line that isn't of this form, where this is the T line.
-fn misformed<'a>(form: Form, line: &'a [u8], sizes: &'a [u8]) -> FormRemark<'a> {
-    FormRemark {
+fn misformed<'a>(form: Form, line: &'a [u8], sizes: &'a [u8]) -> FormNote<'a> {
+    FormNote {
         form,
         line,
         machine: Machine::said("trace", sizes, [1, 2, 4]),

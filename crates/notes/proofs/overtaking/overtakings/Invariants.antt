@@ -1,6 +1,6 @@
 use Rattle.std.proofs.Common.{◌≡◌, ◌++◌, length}
-use Rattle.order_remarks.specs.Overtaking as spec
-use Rattle.order_remarks.proofs.overtaking.overtakings.Given as goal
+use Rattle.notes.specs.Overtaking as spec
+use Rattle.notes.proofs.overtaking.overtakings.Given as goal
 
 abbrev pub invariant-loop-rest : goal.invariant-loop-rest
 invariant-loop-rest l = l.pairs.items ++ spec.overtakings_in l.rest ≡ spec.overtakings l.trace.history

@@ -7,12 +7,12 @@ use trace_text::Script;
 
 /// Which of its numbers makes an event bad for the machine of a script.
 #[derive(Clone, Copy)]
-pub struct EventRemark<'a> {
+pub struct EventNote<'a> {
     pub event: Event,
     pub script: &'a Script,
 }
 
-impl Display for EventRemark<'_> {
+impl Display for EventNote<'_> {
     fn fmt<W: fmt::Write>(&self, f: &mut Formatter<W>) -> fmt::Result {
         let machine = machine_of(self.script);
         let flaw = match self.event {
@@ -33,20 +33,20 @@ impl Display for EventRemark<'_> {
 
 /// That no line of memory is at an address, by a script.
 #[derive(Clone, Copy)]
-pub struct OutsideRemark<'a> {
+pub struct OutsideNote<'a> {
     address: u32,
     script: &'a Script,
 }
 
-impl<'a> OutsideRemark<'a> {
+impl<'a> OutsideNote<'a> {
     /// None where there is one.
-    pub fn of(address: u32, script: &'a Script) -> Option<OutsideRemark<'a>> {
+    pub fn of(address: u32, script: &'a Script) -> Option<OutsideNote<'a>> {
         machine_of(script).address_flaw(address, 1)?;
-        Some(OutsideRemark { address, script })
+        Some(OutsideNote { address, script })
     }
 }
 
-impl Display for OutsideRemark<'_> {
+impl Display for OutsideNote<'_> {
     fn fmt<W: fmt::Write>(&self, f: &mut Formatter<W>) -> fmt::Result {
         match machine_of(self.script).address_flaw(self.address, 1) {
             Some(flaw) => write!(f, "{flaw}"),

@@ -1,5 +1,5 @@
 use Rattle.std.proofs.Common.{◌*◌, ◌≤◌}
-use Rattle.order_remarks.proofs.operations.operations_of.Given as goal
+use Rattle.notes.proofs.operations.operations_of.Given as goal
 
 -- no hart has more operations than its list may have instructions
 abbrev pub invariant-loop-hart : goal.invariant-loop-hart

@@ -9,9 +9,9 @@ use trace_recorder::Trace;
 /// Which hart of a trace that was refused as no run is the first that does not run its image, at which of
 /// its R lines, counted from 0, and what is wrong there.
 #[derive(Clone, Copy)]
-pub struct RunRemark<'a>(pub &'a Trace);
+pub struct RunNote<'a>(pub &'a Trace);
 
-impl Display for RunRemark<'_> {
+impl Display for RunNote<'_> {
     fn fmt<W: fmt::Write>(&self, f: &mut Formatter<W>) -> fmt::Result {
         let trace = self.0;
         let harts = trace.harts();

@@ -5,9 +5,9 @@ use std::io::{self, ErrorKind};
 
 /// Why a file can't be read or written.
 #[derive(Clone, Copy)]
-pub struct FileRemark(pub io::Error);
+pub struct FileNote(pub io::Error);
 
-impl Display for FileRemark {
+impl Display for FileNote {
     fn fmt<W: fmt::Write>(&self, f: &mut Formatter<W>) -> fmt::Result {
         match self.0.kind() {
             ErrorKind::NotFound => f.write_str("there is no such file or folder"),

@@ -7,9 +7,9 @@ use trace_recorder::{OpId, Trace};
 /// Which P line of a trace that was refused as no order is the first that names no memory operation, or one
 /// that an earlier line has named. The lines are counted from 1.
 #[derive(Clone, Copy)]
-pub struct NamingRemark<'a>(pub &'a Trace);
+pub struct NamingNote<'a>(pub &'a Trace);
 
-impl Display for NamingRemark<'_> {
+impl Display for NamingNote<'_> {
     // It ends within one line more than the trace has operations, and no order is asked of more than 4,096.
     fn fmt<W: fmt::Write>(&self, f: &mut Formatter<W>) -> fmt::Result {
         let performed = self.0.performed();

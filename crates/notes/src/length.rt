@@ -7,9 +7,9 @@ use trace_recorder::Trace;
 
 /// How many memory operations a trace has that was refused as too long, and how many are judged.
 #[derive(Clone, Copy)]
-pub struct LengthRemark<'a>(pub &'a Trace);
+pub struct LengthNote<'a>(pub &'a Trace);
 
-impl Display for LengthRemark<'_> {
+impl Display for LengthNote<'_> {
     fn fmt<W: fmt::Write>(&self, f: &mut Formatter<W>) -> fmt::Result {
         let count = operations_of(self.0);
         write!(
