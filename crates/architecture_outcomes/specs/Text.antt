@@ -48,6 +48,7 @@ rows_text longest = codes ", rows over " ++ (decimal longest ++ codes " instruct
 -- how far the search under the model came
 abbrev pub reach_text : Reach → ℕ → List ℕ
 reach_text reach.Whole window = codes ""
+reach_text reach.Unjudged window = codes ", some outcomes left out, as runs of over 4096 operations aren't judged"
 reach_text reach.WindowMet window = codes ", windows over " ++ (decimal window ++ codes " left out")
 reach_text reach.GuessMet window = codes ", some values of loads or ways of fetching on left out"
 reach_text reach.RowMet window = rows_text 10000

@@ -114,6 +114,11 @@ fn spell_reach(into: &mut Vec<u8>, reach: Reach, window: u32) -> Result<(), Allo
 {
     match reach {
         Reach::Whole => {}
+        Reach::Unjudged => {
+            into.extend_from_slice(
+                b", some outcomes left out, as runs of over 4096 operations aren't judged",
+            )?;
+        }
         Reach::WindowMet => {
             into.extend_from_slice(b", windows over ")?;
             spell_number(into, u64::from(window))?;
