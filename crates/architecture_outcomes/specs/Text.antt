@@ -51,6 +51,7 @@ reach_text reach.Whole window = codes ""
 reach_text reach.Unjudged window = codes ", some outcomes left out, as runs of over 4096 operations aren't judged"
 reach_text reach.WindowMet window = codes ", windows over " ++ (decimal window ++ codes " left out")
 reach_text reach.GuessMet window = codes ", some values of loads or ways of fetching on left out"
+reach_text reach.CallMet window = codes ", what a call by a loaded number allows may be left out"
 reach_text reach.RowMet window = rows_text 10000
 reach_text reach.LimitMet window = codes ", limit of states met"
 reach_text reach.OutOfMemory window = codes ", out of memory"

@@ -127,6 +127,9 @@ fn spell_reach(into: &mut Vec<u8>, reach: Reach, window: u32) -> Result<(), Allo
         Reach::GuessMet => {
             into.extend_from_slice(b", some values of loads or ways of fetching on left out")?;
         }
+        Reach::CallMet => {
+            into.extend_from_slice(b", what a call by a loaded number allows may be left out")?;
+        }
         Reach::RowMet => spell_rows(into, LONGEST_ROW)?,
         Reach::LimitMet => into.extend_from_slice(b", limit of states met")?,
         Reach::OutOfMemory => into.extend_from_slice(b", out of memory")?,
