@@ -204,6 +204,26 @@ fn loaded(alloc: Global, is_raw: bool, file: &[u8], size: u32) -> Result<Image, 
     }
 }
 
+/// Says why a file's bytes are no image, but where memory ended.
+fn remark_image<F: Files>(
+    alloc: Global,
+    files: &mut F,
+    is_raw: bool,
+    bytes: &[u8],
+    error: LoadError,
+)
+    ensures { F.held files.new ≡ F.held files.old }
+{
+    if error != LoadError::NoMemory {
+        let why = ImageNote {
+            bytes,
+            is_raw,
+            error,
+        };
+        remark(alloc, files, why);
+    }
+}
+
 /// The image that a file's bytes are loaded as, bare words or an ELF file, into memory of so many KiB.
 pub fn image_of<'a, F: Files>(
     alloc: Global,
@@ -231,14 +251,7 @@ pub fn image_of<'a, F: Files>(
     match loaded(alloc, is_raw, bytes, size) {
         Ok(image) => Ok(image),
         Err(error) => {
-            if error != LoadError::NoMemory {
-                let why = ImageNote {
-                    bytes,
-                    is_raw,
-                    error,
-                };
-                remark(alloc, files, why);
-            }
+            remark_image(alloc, files, is_raw, bytes, error);
             Err(Fault::image(name, error))
         }
     }

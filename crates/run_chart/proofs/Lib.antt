@@ -1,7 +1,7 @@
 pub mod Telling
 pub mod Limits
 pub mod Appending
-pub mod Arrows
+pub mod ArrowHeads
 pub mod Escaping
 pub mod Opening
 pub mod Written

@@ -1,5 +1,5 @@
 use Rattle.std.proofs.Common.{◌∙◌, rules, sym}
-use Rattle.run_chart.proofs.Arrows.{downward_arrow, upward_arrow}
+use Rattle.run_chart.proofs.ArrowHeads.{downward_arrow, upward_arrow}
 use Rattle.run_chart.proofs.shapes.put_arrow.Goals as goal
 
 pub returns-in_ok-put_upward : goal.returns-in_ok-put_upward
