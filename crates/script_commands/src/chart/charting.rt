@@ -7,10 +7,9 @@ ghost use Rattle.script_commands.specs.Addresses.{address};
 ghost use Rattle.script_commands.specs.Charting.{IsAddress, IsChartFault, IsCharted, IsDrawingFault, IsNoAddress, IsPictureCutOff};
 
 use crate::chart::address::address_in;
-use run_chart::STYLE;
 use command_files::{Fault, Files, config_of, image_in, remark_outside, remark_refused, script_in};
 use command_settings::Replay;
-use run_chart::{ChartError, write_chart};
+use run_chart::{ChartError, STYLE, write_chart};
 use std::alloc::Global;
 use std::io::Write;
 
