@@ -107,11 +107,21 @@ const SAMPLE: Stage<'static> = Stage::Sample {
 };
 
 /// Milliseconds since the start, what is told then, and the line.
-static LINES: [(u64, Stage<'static>, &str); 3] = [
+static LINES: [(u64, Stage<'static>, &str); 5] = [
     (
         12_000,
         RUN,
         "12 s, 12M events, retired 0 9999 10k 1000k 10M\x1b[K\r",
+    ),
+    (
+        13_999,
+        SAMPLE,
+        "13 s, 50k runs (3571 a second), 4 ends\x1b[K\r",
+    ),
+    (
+        16_500,
+        EXPLORE,
+        "16 s, 1000k states (60k a second), 3 outcomes\x1b[K\r",
     ),
     (
         20_000,

@@ -1,6 +1,6 @@
 //! The line of a terminal that tells how far a command is.
 
-ghost use Rattle.std.specs.Prelude.{◌≡◌, ◌/◌, ◌^◌, ◌-◌, min};
+ghost use Rattle.std.specs.Prelude.{◌≡◌, ◌*◌, ◌/◌, ◌^◌, ◌-◌, max, min};
 ghost use Rattle.std.specs.Duration.{as_nanos};
 
 use crate::progress::{Progress, Stage};
@@ -36,8 +36,8 @@ impl<'r, R: Clock> ProgressLine<'r, R> {
         })
     }
 
-    // The seconds since the start, where a line is due. Of several threads one is answered so.
-    fn due(&self) -> Option<u64> {
+    // The time since the start, where a line is due. Of several threads one is answered so.
+    fn due(&self) -> Option<Duration> {
         let elapsed = self.started.elapsed(self.rt).ok()?;
         let half = half_seconds(elapsed);
         let next = self.next.load(Ordering::SeqCst);
@@ -48,14 +48,14 @@ impl<'r, R: Clock> ProgressLine<'r, R> {
         self.next
             .compare_exchange(next, following, Ordering::SeqCst, Ordering::SeqCst)
             .ok()?;
-        Some(elapsed.as_secs())
+        Some(elapsed)
     }
 }
 
 impl<R: Clock + Eprint> Progress for ProgressLine<'_, R> {
     fn tell(&self, stage: Stage<'_>) {
-        if let Some(seconds) = self.due() {
-            let _ = self.rt.eprint(Line { seconds, stage });
+        if let Some(elapsed) = self.due() {
+            let _ = self.rt.eprint(Line { elapsed, stage });
         }
     }
 
@@ -73,24 +73,33 @@ fn half_seconds(elapsed: Duration) -> u64
     u64::try_from(elapsed.as_millis() / 500).unwrap_or(u64::MAX)
 }
 
+/// How many of so many things came in each second of this time, which counts as a millisecond at least; as far as a
+/// number of 64 bits tells it.
+fn per_second(count: u64, elapsed: Duration) -> u64
+    ensures { result ≡ min (count * 1000 / max 1 (as_nanos elapsed / 1000000)) (2 ^ 64 - 1) }
+{
+    let millis = elapsed.as_millis().max(1);
+    u64::try_from(u128::from(count) * 1_000 / millis).unwrap_or(u64::MAX)
+}
+
 // What stands on the line; the cursor stays at its beginning. It is shorter than 80 columns while the
 // command takes less than a day.
 #[derive(Drop)]
 struct Line<'a> {
-    seconds: u64,
+    elapsed: Duration,
     stage: Stage<'a>,
 }
 
 impl Display for Line<'_> {
     fn fmt<W: fmt::Write>(&self, f: &mut Formatter<W>) -> fmt::Result {
-        write!(f, "{} s, ", self.seconds)?;
+        write!(f, "{} s, ", self.elapsed.as_secs())?;
         match self.stage {
             Stage::Run { events, retired } => {
                 write!(f, "{} events, retired", Rounded(events))?;
                 put_each(retired, f)?;
             }
             Stage::Explore { states, outcomes } => {
-                let rate = states / self.seconds.max(1);
+                let rate = per_second(states, self.elapsed);
                 write!(
                     f,
                     "{} states ({} a second), {outcomes} outcomes",
@@ -99,7 +108,7 @@ impl Display for Line<'_> {
                 )?;
             }
             Stage::Sample { runs, ends } => {
-                let rate = runs / self.seconds.max(1);
+                let rate = per_second(runs, self.elapsed);
                 write!(
                     f,
                     "{} runs ({} a second), {ends} ends",
