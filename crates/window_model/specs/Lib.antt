@@ -1,0 +1,10 @@
+pub mod Calling
+pub mod Complete
+pub mod Fetching
+pub mod Laws
+pub mod Nodes
+pub mod Placing
+pub mod Reserving
+pub mod Systems
+pub mod Waiting
+pub mod Waits
