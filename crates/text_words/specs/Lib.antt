@@ -1,0 +1,3 @@
+pub mod Words
+pub mod Comments
+pub mod Numbers
