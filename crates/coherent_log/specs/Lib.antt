@@ -1,0 +1,4 @@
+pub mod Told
+pub mod Rules
+pub mod Laws
+pub mod Followed
