@@ -225,7 +225,7 @@ forward_fewer m n (Some s) l e =
     let h = and_parts (is_store s.kind) (not (has_any n s.source)) e in
     and_from (is_store s.kind) (not (has_any m s.source)) h.0 (ap (λ b. not b) (has_any_fewer m n s.source l (not-true (has_any n s.source) h.1)))
 
-may_do_closed : (k : ℕ) (r : Option Reserved) (o : Option Operation) → may_do (address_of (option_map (closed_reservation k) r)) o ≡ may_do (address_of r) o
+pub may_do_closed : (k : ℕ) (r : Option Reserved) (o : Option Operation) → may_do (address_of (option_map (closed_reservation k) r)) o ≡ may_do (address_of r) o
 may_do_closed k None o = refl
 may_do_closed k (Some r) o = refl
 

@@ -1,4 +1,6 @@
+pub mod Beside
 pub mod Lazily
+pub mod LazyPaths
 pub mod Pairs
 pub mod Positions
 pub mod Waits

@@ -3,12 +3,7 @@ use Rattle.std.proofs.Common.{◌≡◌, ℕ, zero, suc, List, [], ◌∷◌, �
 use Rattle.std.specs.Prelude.{map, slice_get}
 use Rattle.std.specs.List.{remove}
 use Rattle.std.proofs.lemmas.Option.{none-some, same_Some}
-
-abbrev pub Pairs : {X Y : Type 0} → (X → Y → Type 0) → List X → List Y → Type 0
-Pairs R [] [] = Unit {0}
-Pairs R [] (y ∷ ys) = ⊥
-Pairs R (x ∷ xs) [] = ⊥
-Pairs R (x ∷ xs) (y ∷ ys) = R x y × Pairs R xs ys
+use Rattle.window_model.specs.Pairs.{Pairs}
 
 pub pairs_length : {X Y : Type 0} (R : X → Y → Type 0) (xs : List X) (ys : List Y) → Pairs R xs ys → length xs ≡ length ys
 pairs_length R [] [] h = refl

@@ -150,7 +150,7 @@ fetched_registers model n i o h r = go (list_any (nat_eq r) (uses_in i).written)
     go true = below_union q (of_registers n.registers (sources (uses_in i))) (itself (length n.window) o) (below_registers q n.registers (sources (uses_in i)) (λ s. below_more (length n.window) q (n.registers s) wider (h.registers s))) (below_itself model n i o)
     go false = below_more (length n.window) q (n.registers r) wider (h.registers r)
 
-fetched_within : (model : MemoryModel) (n : Node) (entry : Retired) (i : Option Instr) (o : Option Operation) → IsWithin n → IsWithin (fetched_as model n entry i o)
+pub fetched_within : (model : MemoryModel) (n : Node) (entry : Retired) (i : Option Instr) (o : Option Operation) → IsWithin n → IsWithin (fetched_as model n entry i o)
 fetched_within model n entry i o h = record {
   registers = fetched_registers model n i o h;
   loads = below_union q n.loads _ (below_more p q n.loads wider h.loads) (below_union q (those (λ (w : Waiting). fences i w.kind Load) n.window) (acquired model p o) (below_more p q (those (λ (w : Waiting). fences i w.kind Load) n.window) wider (below_those (λ (w : Waiting). fences i w.kind Load) n.window)) (below_acquired model n i o));
@@ -204,7 +204,7 @@ behind_closed k j w h = record { needs = closed w.needs h.needs; source = closed
         (cases_lt m k))
         (cases_lt j k)
 
-leaving_within : (k : ℕ) (n : Node) → k < length n.window → IsWithin n → IsWithin (leaving k n)
+pub leaving_within : (k : ℕ) (n : Node) → k < length n.window → IsWithin n → IsWithin (leaving k n)
 leaving_within k n l h = record {
   registers = λ r. closed (n.registers r) (h.registers r);
   loads = closed n.loads h.loads;
@@ -262,14 +262,14 @@ pinned_within w k n h = record {
     as_long : length n.window ≡ length (pinned_by w (take k n.window) ++ drop k n.window)
     as_long = ap length (sym (take-append-drop k n.window)) ∙ sym (pinned_length w (take k n.window) (drop k n.window))
 
-placed_within : (n : Node) (k : ℕ) (w : Waiting) → slice_get n.window k ≡ Some w → IsWithin n → IsWithin (placed n k w)
+pub placed_within : (n : Node) (k : ℕ) (w : Waiting) → slice_get n.window k ≡ Some w → IsWithin n → IsWithin (placed n k w)
 placed_within n k w e h =
     leaving_within k (record n { window = pinned_by w (take k n.window) ++ drop k n.window })
     (let l = slice_get_within n.window k w e in let m = ap length (sym (take-append-drop k n.window)) ∙ sym (pinned_length w (take k n.window) (drop k n.window)) in omega (arith, l, m))
     (pinned_within w k n h)
 
 -- another hart's store changes no set, but may end the reservation
-beside_within : (w : Waiting) (n : Node) → IsWithin n → IsWithin (beside w n)
+pub beside_within : (w : Waiting) (n : Node) → IsWithin n → IsWithin (beside w n)
 beside_within w n h = record {
   registers = h.registers;
   loads = h.loads;
@@ -297,11 +297,11 @@ beside_within w n h = record {
 
 -- ---- paths
 
-AllWithin : System → Type 0
+abbrev pub AllWithin : System → Type 0
 AllWithin s = (h : ℕ) (n : Node) → slice_get s.nodes h ≡ Some n → IsWithin n
 
 -- what is at a position once one element is set
-at_set : (nodes : List Node) (h g : ℕ) (m n : Node) → slice_get (slice_set nodes h m) g ≡ Some n → IsWithin m → (slice_get nodes g ≡ Some n → IsWithin n) → IsWithin n
+pub at_set : (nodes : List Node) (h g : ℕ) (m n : Node) → slice_get (slice_set nodes h m) g ≡ Some n → IsWithin m → (slice_get nodes g ≡ Some n → IsWithin n) → IsWithin n
 at_set [] h g m n e new old = absurd (none-some n e)
 at_set (x ∷ nodes) zero zero m n e new old = subst IsWithin (same_Some m n e) new
 at_set (x ∷ nodes) zero (suc g) m n e new old = old e
@@ -315,15 +315,13 @@ beside_at w nodes g n f e = go (slice_get nodes g) refl (sym (slice_get-map (bes
     go None k h = absurd (none-some n h)
     go (Some m) k h = subst IsWithin (same_Some (beside w m) n h) (beside_within w m (f m k))
 
-fetches_within : (model : MemoryModel) (image : Initial) (h : ℕ) (entry : Retired) (s t : System) → Fetches model image h entry s t → AllWithin s → AllWithin t
-unfolding AllWithin
+pub fetches_within : (model : MemoryModel) (image : Initial) (h : ℕ) (entry : Retired) (s t : System) → Fetches model image h entry s t → AllWithin s → AllWithin t
 fetches_within model image h entry s t f all g n e =
     at_set s.nodes h g (fetched model f.node entry) n (sym (ap (λ (u : System). slice_get u.nodes g) f.new) ∙ e)
     (fetched_within model f.node entry (decoded entry.word) (operation_of f.node.hart entry) (all h f.node f.stands))
     (all g n)
 
-places_within : (h k : ℕ) (s t : System) → Places h k s t → AllWithin s → AllWithin t
-unfolding AllWithin
+pub places_within : (h k : ℕ) (s t : System) → Places h k s t → AllWithin s → AllWithin t
 places_within h k s t f all g n e =
     at_set (map (beside f.operation) s.nodes) h g (placed f.node k f.operation) n (sym (ap (λ (u : System). slice_get u.nodes g) f.new) ∙ e)
     (placed_within f.node k f.operation f.can.waits (all h f.node f.stands))
@@ -344,8 +342,7 @@ reset_within image harts id = record {
   window = λ k w e. absurd (none-some w e);
 }
 
-opening_within : (image : Initial) (harts : ℕ) → AllWithin (opening image harts)
-unfolding AllWithin
+pub opening_within : (image : Initial) (harts : ℕ) → AllWithin (opening image harts)
 opening_within image harts h n e = go (slice_get (range_with_len 0 harts) h) (sym (slice_get-map (node_at_reset image harts) (range_with_len 0 harts) h) ∙ e)
   where
     go : (o : Option ℕ) → option_map (node_at_reset image harts) o ≡ Some n → IsWithin n
@@ -353,5 +350,4 @@ opening_within image harts h n e = go (slice_get (range_with_len 0 harts) h) (sy
     go (Some id) f = subst IsWithin (same_Some (node_at_reset image harts id) n f) (reset_within image harts id)
 
 pub sets_are_within : SetsAreWithin
-unfolding AllWithin
 sets_are_within model image harts steps s h n l e = path_within model image steps (opening image harts) s l (opening_within image harts) h n e

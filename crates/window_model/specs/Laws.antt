@@ -15,8 +15,9 @@ use Rattle.memory_model.specs.Traces.{last_performed}
 use Rattle.trace_recorder.specs.History.{History}
 use Rattle.window_model.specs.Complete.{IsEnded}
 use Rattle.window_model.specs.Fetching.{CanFetch, fetched}
+use Rattle.window_model.specs.Lazily.{CanFetchAll, IsLedLazily, fetched_all}
 use Rattle.window_model.specs.Nodes.{Node, lr_of, node_at_reset, own_of}
-use Rattle.window_model.specs.Placing.{CanPlace, placed}
+use Rattle.window_model.specs.Placing.{Admits, CanPlace, beside, placed}
 use Rattle.window_model.specs.Reserving.{are_reserved}
 use Rattle.window_model.specs.Systems.{HaveEndedAs, Leads, Step, System, opening}
 use Rattle.window_model.specs.Waiting.{Waiting}
@@ -52,15 +53,6 @@ SetsAreWithin =
     → IsWithin n
 
 -- ---- a hart fetches a whole list
-
-abbrev pub fetched_all : MemoryModel → Node → List Retired → Node
-fetched_all model n [] = n
-fetched_all model n (entry ∷ rest) = fetched_all model (fetched model n entry) rest
-
--- each entry of it
-abbrev pub CanFetchAll : MemoryModel → Initial → Node → List Retired → Type 0
-CanFetchAll model image n [] = Unit {0}
-CanFetchAll model image n (entry ∷ rest) = CanFetch image n entry × CanFetchAll model image (fetched model n entry) rest
 
 abbrev pub operations_of : List Item → List Operation
 operations_of = filter_map (λ (m : Item). m.operation)
@@ -109,6 +101,29 @@ PlacingComesFirst =
     (model : MemoryModel) (image : Initial) (memory : ℕ → ℕ) (n : Node) (entry : Retired) (k : ℕ) (w : Waiting)
     → CanFetch image n entry → k < length n.window → CanPlace memory (fetched model n entry) k w
     → ComesFirst model image memory n entry k w
+
+-- ---- another hart's store comes before fetching
+
+-- a store that another hart places behind an instruction that a hart fetches may as well be placed before that, and the hart then fetches to the same node
+pub record IsAdmittedFirst (model : MemoryModel) (image : Initial) (n : Node) (entry : Retired) (w : Waiting) : Type 0 where
+  pub admits : Admits w n
+  pub can_fetch : CanFetch image (beside w n) entry
+  pub same : beside w (fetched model n entry) ≡ fetched model (beside w n) entry
+
+abbrev pub StoresComeFirst : Type 0
+StoresComeFirst =
+    (model : MemoryModel) (image : Initial) (n : Node) (entry : Retired) (w : Waiting)
+    → IsWithin n → CanFetch image n entry → Admits w (fetched model n entry)
+    → IsAdmittedFirst model image n entry w
+
+-- ---- lazily
+
+-- for each path from reset there is one to the same system on which each hart fetches no further than what it places next
+abbrev pub PathsAreLazy : Type 0
+PathsAreLazy =
+    (model : MemoryModel) (image : Initial) (harts : ℕ) (steps : List Step) (s : System)
+    → Leads model image steps (opening image harts) s
+    → IsLedLazily model image (opening image harts) s
 
 -- ---- following
 

@@ -2,7 +2,9 @@ pub mod Calling
 pub mod Complete
 pub mod Fetching
 pub mod Laws
+pub mod Lazily
 pub mod Nodes
+pub mod Pairs
 pub mod Placing
 pub mod Reserving
 pub mod Systems

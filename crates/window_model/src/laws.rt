@@ -1,5 +1,5 @@
 //! Laws of the bare window machine, each the contract of a function that does nothing.
-ghost use Rattle.window_model.specs.Laws.{EndedAreFollowed, ListsAreFetched, PlacingComesFirst, SetsAreWithin};
+ghost use Rattle.window_model.specs.Laws.{EndedAreFollowed, ListsAreFetched, PathsAreLazy, PlacingComesFirst, SetsAreWithin, StoresComeFirst};
 
 /// Whatever steps harts take from reset, each set of a hart has positions of its window alone, and an operation waits
 /// only for what stands before it.
@@ -23,4 +23,16 @@ pub fn ended_are_followed()
 /// the same node.
 pub fn placing_comes_first()
     ensures { PlacingComesFirst }
+{}
+
+/// A store that another hart places behind an instruction that a hart fetches may be placed before that instead, and
+/// the hart comes to the same node.
+pub fn stores_come_first()
+    ensures { StoresComeFirst }
+{}
+
+/// For each path from reset there is one to the same system on which each hart fetches no further than what it places
+/// next.
+pub fn paths_are_lazy()
+    ensures { PathsAreLazy }
 {}

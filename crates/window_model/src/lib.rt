@@ -4,4 +4,7 @@
 
 mod laws;
 
-pub use laws::{ended_are_followed, lists_are_fetched, placing_comes_first, sets_are_within};
+pub use laws::{
+    ended_are_followed, lists_are_fetched, paths_are_lazy, placing_comes_first, sets_are_within,
+    stores_come_first,
+};

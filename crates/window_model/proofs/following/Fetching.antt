@@ -25,10 +25,11 @@ use Rattle.rv32_exec.specs.Uses.{Uses}
 use Rattle.trace_operations.specs.Placed.{IsPlaced}
 use Rattle.window_model.specs.Fetching.{acquired, fetched_as, itself, loads_behind, must_precede, needs_of, registers_behind, reservation_behind, reserves, stores_behind, waiting_with, window_behind}
 use Rattle.window_model.specs.Nodes.{Node, Reserved, address_of, lr_of, own_of}
+use Rattle.window_model.specs.Pairs.{Pairs}
 use Rattle.window_model.specs.Reserving.{is_reserved, may_do}
 use Rattle.window_model.specs.Waiting.{Waiting, is_store, overlaps}
 use Rattle.window_model.specs.Waits.{Waits, of_registers, only, those, when, ◌∪◌}
-use Rattle.window_model.proofs.Pairs.{Pairs, pairs_append, pairs_left, pairs_length, pairs_right, pairs_weaker}
+use Rattle.window_model.proofs.Pairs.{pairs_append, pairs_left, pairs_length, pairs_right, pairs_weaker}
 use Rattle.window_model.proofs.Positions.{at_end, at_longer}
 use Rattle.window_model.proofs.Waits.{At, Only, either, only_longer, only_none, only_one, only_registers, only_union, only_weaker, only_when, those_are, those_at}
 use Rattle.window_model.proofs.following.Given.{IsOf, has_acquire-unplaced, has_rcsc-unplaced, has_release-unplaced, unplaced}

@@ -11,8 +11,8 @@ use Rattle.memory_model.specs.Operations.{has_rcsc, is_lr, is_sc, overlap, reads
 use Rattle.memory_model.specs.Reaching.{Reaches}
 use Rattle.memory_model.specs.Rules.{is_lr_or_sc, paired}
 use Rattle.window_model.specs.Nodes.{Node, Reserved}
+use Rattle.window_model.specs.Pairs.{Pairs}
 use Rattle.window_model.specs.Waiting.{Waiting}
-use Rattle.window_model.proofs.Pairs.{Pairs}
 use Rattle.window_model.proofs.Waits.{Only}
 use Rattle.window_model.proofs.following.Given.{IsOf}
 use Rattle.window_model.proofs.following.Rules.{Asks}

@@ -22,7 +22,8 @@ use Rattle.rv32_decode.specs.Rows.{decoded}
 use Rattle.rv32_decode.specs.declared.instruction.Instr.{Instr}
 use Rattle.trace_operations.specs.Placed.{IsPlaced}
 use Rattle.window_model.specs.Fetching.{fetched, fetched_as, reservation_behind, reserves}
-use Rattle.window_model.specs.Laws.{CanFetchAll, IsWaiting, ListsAreFetched, fetched_all, operations_of}
+use Rattle.window_model.specs.Laws.{IsWaiting, ListsAreFetched, operations_of}
+use Rattle.window_model.specs.Lazily.{CanFetchAll, fetched_all}
 use Rattle.window_model.specs.Nodes.{Node, address_of, node_at_reset}
 use Rattle.window_model.specs.Reserving.{are_reserved, may_do, reserved_behind, reserved_by}
 use Rattle.window_model.specs.Waiting.{Waiting}

@@ -14,10 +14,11 @@ use Rattle.memory_model.specs.Rules.{items_of}
 use Rattle.memory_model.proofs.Forms.{same-self}
 use Rattle.memory_model.proofs.Lists.{Member}
 use Rattle.window_model.specs.Nodes.{Node}
+use Rattle.window_model.specs.Pairs.{Pairs}
 use Rattle.window_model.specs.Placing.{beside, pinned_by, placed, reads_with}
 use Rattle.window_model.specs.Waiting.{Waiting, closed_up}
 use Rattle.window_model.specs.Waits.{stood_at}
-use Rattle.window_model.proofs.Pairs.{Pairs, pairs_map, pairs_remove}
+use Rattle.window_model.proofs.Pairs.{pairs_map, pairs_remove}
 use Rattle.window_model.proofs.Positions.{at_remove, stood_before, stood_behind}
 use Rattle.window_model.proofs.Waits.{either, only_without}
 use Rattle.window_model.proofs.following.Admitting.{Other, behind_b}

@@ -26,14 +26,16 @@ use Rattle.witnesses.specs.Outcomes.{results_from}
 use Rattle.witnesses.specs.Witnesses.{has_ended}
 use Rattle.window_model.specs.Complete.{IsEnded}
 use Rattle.window_model.specs.Fetching.{fetched}
-use Rattle.window_model.specs.Laws.{CanFetchAll, EndedAreFollowed, IsFollowed, fetched_all, operations_of}
+use Rattle.window_model.specs.Laws.{EndedAreFollowed, IsFollowed, operations_of}
+use Rattle.window_model.specs.Lazily.{CanFetchAll, fetched_all}
 use Rattle.window_model.specs.Nodes.{Node, node_at_reset}
+use Rattle.window_model.specs.Pairs.{Pairs}
 use Rattle.window_model.specs.Placing.{beside, placed, written_over}
 use Rattle.window_model.specs.Reserving.{are_reserved}
 use Rattle.window_model.specs.Systems.{HaveEndedAs, Leads, Places, Step, System, opening}
 use Rattle.window_model.specs.Systems.Step.{Fetch, Place}
 use Rattle.window_model.specs.Waiting.{Waiting, stores_to, written_at}
-use Rattle.window_model.proofs.Pairs.{Beside, Pairs, pairs_right}
+use Rattle.window_model.proofs.Pairs.{Beside, pairs_right}
 use Rattle.window_model.proofs.following.Admitting.{admits}
 use Rattle.window_model.proofs.following.Ended.{Listed, legal_of, lists_of}
 use Rattle.window_model.proofs.following.Kept.{Kept, Shows, Stands}

@@ -13,8 +13,9 @@ use Rattle.memory_model.specs.Operations.{reads, touches}
 use Rattle.memory_model.specs.Rules.{has_store_to, items_of}
 use Rattle.memory_model.proofs.Lists.{Member}
 use Rattle.window_model.specs.Nodes.{Node}
+use Rattle.window_model.specs.Pairs.{Pairs}
 use Rattle.window_model.specs.Waiting.{Waiting}
-use Rattle.window_model.proofs.Pairs.{Pairs, pairs_left}
+use Rattle.window_model.proofs.Pairs.{pairs_left}
 use Rattle.window_model.proofs.following.Fetching.{precedes_by}
 use Rattle.window_model.proofs.following.Kept.{IsOwn, Stands}
 use Rattle.window_model.proofs.following.Rules.{asks}
