@@ -1,5 +1,5 @@
 -- Laws of the bare window machine: of all its paths, and of harts that fetch a whole list.
-use Rattle.std.specs.Prelude.{ℕ, ◌≡◌, ◌<◌, ◌||◌, true, List, [], ◌∷◌, None, Some, length, slice_get}
+use Rattle.std.specs.Prelude.{ℕ, ◌≡◌, ◌<◌, ◌||◌, Bool, true, List, [], ◌∷◌, None, Some, length, slice_get}
 use Rattle.std.specs.List.{filter_map}
 use Rattle.elf_loader.specs.Image.{Initial}
 use Rattle.hart.specs.declared.retired.Retired.{Retired}
@@ -13,13 +13,13 @@ use Rattle.memory_model.specs.Operations.{has_rcsc}
 use Rattle.memory_model.specs.Rules.{preserved}
 use Rattle.memory_model.specs.Traces.{last_performed}
 use Rattle.trace_recorder.specs.History.{History}
-use Rattle.window_model.specs.Complete.{IsEnded}
+use Rattle.window_model.specs.Complete.{IsEnded, SeesOnly}
 use Rattle.window_model.specs.Fetching.{CanFetch, fetched}
 use Rattle.window_model.specs.Lazily.{CanFetchAll, IsLedLazily, fetched_all}
 use Rattle.window_model.specs.Nodes.{Node, lr_of, node_at_reset, own_of}
 use Rattle.window_model.specs.Placing.{Admits, CanPlace, beside, placed}
 use Rattle.window_model.specs.Reserving.{are_reserved}
-use Rattle.window_model.specs.Systems.{HaveEndedAs, Leads, Step, System, opening}
+use Rattle.window_model.specs.Systems.{HaveEndedAs, Leads, LeadsSeen, Step, System, opening}
 use Rattle.window_model.specs.Waiting.{Waiting}
 use Rattle.window_model.specs.Waits.{Waits}
 use Rattle.witnesses.specs.Outcomes.{output_from, results_of}
@@ -118,23 +118,23 @@ StoresComeFirst =
 
 -- ---- lazily
 
--- for each path from reset there is one to the same system on which each hart fetches no further than what it places next
+-- for each path from reset there is one to the same system, in no more steps and with the same memories, on which each hart fetches no further than what it places next
 abbrev pub PathsAreLazy : Type 0
 PathsAreLazy =
-    (model : MemoryModel) (image : Initial) (harts : ℕ) (steps : List Step) (s : System)
-    → Leads model image steps (opening image harts) s
-    → IsLedLazily model image (opening image harts) s
+    (model : MemoryModel) (image : Initial) (harts : ℕ) (seen : (ℕ → ℕ) → Bool) (steps : List Step) (s : System)
+    → LeadsSeen model image seen steps (opening image harts) s
+    → IsLedLazily model image seen (length steps) (opening image harts) s
 
 -- ---- following
 
--- steps from reset lead to ends with the outcome of a run, and to a memory that has the last write of its order to each byte
-pub record IsFollowed (image : Initial) (config : Config) (t : History) : Type 0 where
+-- steps from reset, each of which leaves a memory that was seen, lead to ends with the outcome of a run, and to a memory that has the last write of its order to each byte
+pub record IsFollowed (image : Initial) (config : Config) (seen : (ℕ → ℕ) → Bool) (t : History) : Type 0 where
   pub steps : List Step
   pub end : System
-  pub leads : Leads config.model image steps (opening image config.harts) end
+  pub leads : LeadsSeen config.model image seen steps (opening image config.harts) end
   pub ended : HaveEndedAs image end.nodes (results_of t)
   pub memory : (x : ℕ) → end.memory x ≡ last_performed t x
 
--- the bare machine follows each run to its ends, in each order that the model allows
+-- the bare machine follows each run to its ends, in each order that the model allows, by the memories that the order leaves
 abbrev pub EndedAreFollowed : Type 0
-EndedAreFollowed = (image : Initial) (config : Config) (t : History) → IsEnded image config t → IsFollowed image config t
+EndedAreFollowed = (image : Initial) (config : Config) (seen : (ℕ → ℕ) → Bool) (t : History) → IsEnded image config t → SeesOnly seen t → IsFollowed image config seen t

@@ -1,5 +1,5 @@
 -- The bare window machine: harts with windows over one memory, whose small steps build the global memory order from left to right. It has no bound, guesses any value, and leaves nothing out.
-use Rattle.std.specs.Prelude.{ℕ, ◌≡◌, true, List, [], ◌∷◌, Some, map, slice_get, slice_set}
+use Rattle.std.specs.Prelude.{ℕ, ◌≡◌, Bool, true, List, [], ◌∷◌, Some, map, slice_get, slice_set}
 use Rattle.std.specs.List.{range_with_len}
 use Rattle.elf_loader.specs.Image.{Initial, byte_at}
 use Rattle.flat_model.specs.Shown.{HartEnd}
@@ -49,6 +49,11 @@ Takes model image (Place h k) s t = Places h k s t
 abbrev pub Leads : MemoryModel → Initial → List Step → System → System → Type 0
 Leads model image [] s u = s ≡ u
 Leads model image (step ∷ rest) s u = (t : System) × Takes model image step s t × Leads model image rest t u
+
+-- and each memory that they leave was seen
+abbrev pub LeadsSeen : MemoryModel → Initial → (seen : (ℕ → ℕ) → Bool) → List Step → System → System → Type 0
+LeadsSeen model image seen [] s u = s ≡ u
+LeadsSeen model image seen (step ∷ rest) s u = (t : System) × Takes model image step s t × (seen t.memory ≡ true) × LeadsSeen model image seen rest t u
 
 -- ---- ends
 

@@ -14,7 +14,7 @@ pub fn lists_are_fetched()
 {}
 
 /// For each run to its ends and each order that the model allows, steps of the bare machine lead from reset to the same
-/// ends and outputs, and to a memory that the order leaves.
+/// ends and outputs, by the memories that the order leaves.
 pub fn ended_are_followed()
     ensures { EndedAreFollowed }
 {}
@@ -31,8 +31,8 @@ pub fn stores_come_first()
     ensures { StoresComeFirst }
 {}
 
-/// For each path from reset there is one to the same system on which each hart fetches no further than what it places
-/// next.
+/// For each path from reset there is one to the same system, in no more steps and with the same memories, on which each
+/// hart fetches no further than what it places next.
 pub fn paths_are_lazy()
     ensures { PathsAreLazy }
 {}

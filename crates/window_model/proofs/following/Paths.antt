@@ -1,8 +1,9 @@
 -- The whole path: each hart fetches its list, and then the operations are placed in the order.
-use Rattle.std.proofs.Common.{◌≡◌, ℕ, zero, suc, ◌+◌, ◌<◌, List, [], ◌∷◌, ◌++◌, Bool, true, false, Option, Some, None, refl, cond, sym, ap, ◌∙◌, inl, inr, arith, length, subst}
+use Rattle.std.proofs.Common.{◌≡◌, ℕ, zero, suc, ◌+◌, ◌<◌, List, [], ◌∷◌, ◌++◌, Bool, true, false, Option, Some, None, refl, cond, sym, ap, ◌∙◌, inl, inr, arith, drop, length, subst, take}
 use Rattle.std.specs.Prelude.{filter, map, slice_get, slice_index_or, slice_set}
-use Rattle.std.specs.List.{cons_option, last_or, list_all, range_with_len, remove}
+use Rattle.std.specs.List.{cons_option, filter_map, last_or, list_all, range_with_len, remove}
 use Rattle.std.specs.Option.{option_map}
+use Rattle.std.proofs.Math.Path.{fun_ext}
 use Rattle.std.proofs.lemmas.Bool.{false≢true, and_parts}
 use Rattle.std.proofs.lemmas.List.{append-nil, append_assoc, length-append}
 use Rattle.std.proofs.lemmas.List.Elements.{filter-append}
@@ -19,12 +20,12 @@ use Rattle.memory_model.specs.Items.{Item, items_from, items_of_harts}
 use Rattle.memory_model.specs.Operations as operation
 use Rattle.memory_model.specs.Order as order
 use Rattle.memory_model.specs.Rules.{items_of}
-use Rattle.memory_model.specs.Traces.{are_runs_from, image_of, instructions, operations_at}
+use Rattle.memory_model.specs.Traces.{are_runs_from, image_of, instructions, operation_at, operations_at}
 use Rattle.memory_model.proofs.Lists.{Member}
 use Rattle.trace_recorder.specs.History.{History}
 use Rattle.witnesses.specs.Outcomes.{results_from}
 use Rattle.witnesses.specs.Witnesses.{has_ended}
-use Rattle.window_model.specs.Complete.{IsEnded}
+use Rattle.window_model.specs.Complete.{IsEnded, SeesOnly}
 use Rattle.window_model.specs.Fetching.{fetched}
 use Rattle.window_model.specs.Laws.{EndedAreFollowed, IsFollowed, operations_of}
 use Rattle.window_model.specs.Lazily.{CanFetchAll, fetched_all}
@@ -32,7 +33,7 @@ use Rattle.window_model.specs.Nodes.{Node, node_at_reset}
 use Rattle.window_model.specs.Pairs.{Pairs}
 use Rattle.window_model.specs.Placing.{beside, placed, written_over}
 use Rattle.window_model.specs.Reserving.{are_reserved}
-use Rattle.window_model.specs.Systems.{HaveEndedAs, Leads, Places, Step, System, opening}
+use Rattle.window_model.specs.Systems.{HaveEndedAs, LeadsSeen, Places, Step, System, opening}
 use Rattle.window_model.specs.Systems.Step.{Fetch, Place}
 use Rattle.window_model.specs.Waiting.{Waiting, stores_to, written_at}
 use Rattle.window_model.proofs.Pairs.{Beside, pairs_right}
@@ -234,44 +235,46 @@ place_one model image all whole done b rest s legal split state = record {
     harts g n (own e f) = subst (λ h. HasHart model all h (done ++ b ∷ []) rest n) (sym e) (subst (HasHart model all b.hart (done ++ b ∷ []) rest) f (record { ops = remove c.ops c.k; kept = placed_kept c }))
     harts g n (others e old f k) = let h = state.harts g old f in subst (HasHart model all g (done ++ b ∷ []) rest) k (record { ops = h.ops; kept = other_kept c g old h.ops (record { kept = h.kept; other = e }) })
 
-record PlacedAll (model : MemoryModel) (initial : Initial) (image : ℕ → ℕ) (all : List (List Item)) (whole : List Operation) (s : System) : Type 0 where
+record PlacedAll (model : MemoryModel) (initial : Initial) (seen : (ℕ → ℕ) → Bool) (image : ℕ → ℕ) (all : List (List Item)) (whole : List Operation) (s : System) : Type 0 where
   steps : List Step
   end : System
-  leads : Leads model initial steps s end
+  leads : LeadsSeen model initial seen steps s end
   state : State model image all whole [] end
   same : Pairs SameEnd s.nodes end.nodes
 
-place_all : (model : MemoryModel) (initial : Initial) (image : ℕ → ℕ) (all : List (List Item)) (whole done rest : List Operation) (s : System) → Legal model image all whole → whole ≡ done ++ rest → State model image all done rest s → PlacedAll model initial image all whole s
-place_all model initial image all whole done [] s legal split state =
+place_all : (model : MemoryModel) (initial : Initial) (seen : (ℕ → ℕ) → Bool) (image : ℕ → ℕ) (all : List (List Item)) (whole done rest : List Operation) (s : System) → Legal model image all whole → whole ≡ done ++ rest → State model image all done rest s → ((d r : List Operation) → whole ≡ d ++ r → seen (order.last_write image d) ≡ true) → PlacedAll model initial seen image all whole s
+place_all model initial seen image all whole done [] s legal split state saws =
     record { steps = []; end = s; leads = refl; state = subst (λ ds. State model image all ds [] s) (sym (split ∙ append-nil done)) state; same = same_ends s.nodes }
-place_all model initial image all whole done (b ∷ rest) s legal split state =
+place_all model initial seen image all whole done (b ∷ rest) s legal split state saws =
     let one = place_one model image all whole done b rest s legal split state in
-    let others = place_all model initial image all whole (done ++ b ∷ []) rest one.new legal (split ∙ sym (append_assoc done (b ∷ []) rest)) one.state in
+    let longer = split ∙ sym (append_assoc done (b ∷ []) rest) in
+    let others = place_all model initial seen image all whole (done ++ b ∷ []) rest one.new legal longer one.state saws in
     record {
       steps = Place b.hart one.position ∷ others.steps;
       end = others.end;
-      leads = (one.new, one.places, others.leads);
+      leads = (one.new, one.places, ap seen (fun_ext one.state.holds) ∙ saws (done ++ b ∷ []) rest longer, others.leads);
       state = others.state;
       same = ends_on s.nodes one.new.nodes others.end.nodes one.same others.same;
     }
 
 -- ---- fetching
 
-leads_append : (model : MemoryModel) (image : Initial) (xs ys : List Step) (s t u : System) → Leads model image xs s t → Leads model image ys t u → Leads model image (xs ++ ys) s u
-leads_append model image [] ys s t u h k = subst (λ v. Leads model image ys v u) (sym h) k
-leads_append model image (x ∷ xs) ys s t u h k = (h.0, h.1, leads_append model image xs ys h.0 t u h.2 k)
+pub leads_append : (model : MemoryModel) (image : Initial) (seen : (ℕ → ℕ) → Bool) (xs ys : List Step) (s t u : System) → LeadsSeen model image seen xs s t → LeadsSeen model image seen ys t u → LeadsSeen model image seen (xs ++ ys) s u
+leads_append model image seen [] ys s t u h k = subst (λ v. LeadsSeen model image seen ys v u) (sym h) k
+leads_append model image seen (x ∷ xs) ys s t u h k = (h.0, h.1, h.2, leads_append model image seen xs ys h.0 t u h.3 k)
 
 set_front : (front : List Node) (n m : Node) (back : List Node) → slice_set (front ++ n ∷ back) (length front) m ≡ front ++ m ∷ back
 set_front [] n m back = refl
 set_front (x ∷ front) n m back = ap (λ ys. x ∷ ys) (set_front front n m back)
 
-fetch_list : (model : MemoryModel) (image : Initial) (memory : ℕ → ℕ) (front back : List Node) (n : Node) (entries : List Retired) → CanFetchAll model image n entries
-    → Leads model image (map (Fetch (length front)) entries) (record { memory = memory; nodes = front ++ n ∷ back }) (record { memory = memory; nodes = front ++ fetched_all model n entries ∷ back })
-fetch_list model image memory front back n [] h = refl
-fetch_list model image memory front back n (entry ∷ rest) h = (
+fetch_list : (model : MemoryModel) (image : Initial) (seen : (ℕ → ℕ) → Bool) (memory : ℕ → ℕ) (front back : List Node) (n : Node) (entries : List Retired) → CanFetchAll model image n entries → seen memory ≡ true
+    → LeadsSeen model image seen (map (Fetch (length front)) entries) (record { memory = memory; nodes = front ++ n ∷ back }) (record { memory = memory; nodes = front ++ fetched_all model n entries ∷ back })
+fetch_list model image seen memory front back n [] h saw = refl
+fetch_list model image seen memory front back n (entry ∷ rest) h saw = (
   record { memory = memory; nodes = front ++ fetched model n entry ∷ back },
   record { node = n; stands = front_at front n back; can = h.0; new = ap (λ ns. record { memory = memory; nodes = ns }) (sym (set_front front n (fetched model n entry) back)) },
-  fetch_list model image memory front back (fetched model n entry) rest h.1,
+  saw,
+  fetch_list model image seen memory front back (fetched model n entry) rest h.1 saw,
 )
 
 abbrev fetched_from : MemoryModel → Initial → (harts id : ℕ) → List (List Retired) → List Node
@@ -282,26 +285,26 @@ CanFetchLists : MemoryModel → Initial → (harts id : ℕ) → List (List Reti
 CanFetchLists model image harts id [] = Unit {0}
 CanFetchLists model image harts id (entries ∷ rest) = CanFetchAll model image (node_at_reset image harts id) entries × CanFetchLists model image harts (id + 1) rest
 
-record FetchedLists (model : MemoryModel) (image : Initial) (memory : ℕ → ℕ) (harts id : ℕ) (front : List Node) (lists : List (List Retired)) : Type 0 where
+record FetchedLists (model : MemoryModel) (image : Initial) (seen : (ℕ → ℕ) → Bool) (memory : ℕ → ℕ) (harts id : ℕ) (front : List Node) (lists : List (List Retired)) : Type 0 where
   steps : List Step
-  leads : Leads model image steps (record { memory = memory; nodes = front ++ map (node_at_reset image harts) (range_with_len id (length lists)) }) (record { memory = memory; nodes = front ++ fetched_from model image harts id lists })
+  leads : LeadsSeen model image seen steps (record { memory = memory; nodes = front ++ map (node_at_reset image harts) (range_with_len id (length lists)) }) (record { memory = memory; nodes = front ++ fetched_from model image harts id lists })
 
-fetch_lists : (model : MemoryModel) (image : Initial) (memory : ℕ → ℕ) (harts id : ℕ) (front : List Node) (lists : List (List Retired)) → length front ≡ id → CanFetchLists model image harts id lists → FetchedLists model image memory harts id front lists
+fetch_lists : (model : MemoryModel) (image : Initial) (seen : (ℕ → ℕ) → Bool) (memory : ℕ → ℕ) (harts id : ℕ) (front : List Node) (lists : List (List Retired)) → length front ≡ id → CanFetchLists model image harts id lists → seen memory ≡ true → FetchedLists model image seen memory harts id front lists
 unfolding CanFetchLists
-fetch_lists model image memory harts id front [] e h = record { steps = []; leads = refl }
-fetch_lists model image memory harts id front (entries ∷ rest) e h =
+fetch_lists model image seen memory harts id front [] e h saw = record { steps = []; leads = refl }
+fetch_lists model image seen memory harts id front (entries ∷ rest) e h saw =
     let n = node_at_reset image harts id in
     let m = fetched_all model n entries in
     let back = map (node_at_reset image harts) (range_with_len (id + 1) (length rest)) in
-    let one = fetch_list model image memory front back n entries h.0 in
+    let one = fetch_list model image seen memory front back n entries h.0 saw in
     let longer = length-append front (m ∷ []) in
-    let others = fetch_lists model image memory harts (id + 1) (front ++ m ∷ []) rest (omega (arith, longer, e)) h.1 in
-    let moved : Leads model image others.steps (record { memory = memory; nodes = front ++ m ∷ back }) (record { memory = memory; nodes = front ++ m ∷ fetched_from model image harts (id + 1) rest }) =
-    subst (λ ns. Leads model image others.steps (record { memory = memory; nodes = front ++ m ∷ back }) (record { memory = memory; nodes = ns })) (append_assoc front (m ∷ []) (fetched_from model image harts (id + 1) rest))
-    (subst (λ ns. Leads model image others.steps (record { memory = memory; nodes = ns }) (record { memory = memory; nodes = (front ++ m ∷ []) ++ fetched_from model image harts (id + 1) rest })) (append_assoc front (m ∷ []) back) others.leads) in
+    let others = fetch_lists model image seen memory harts (id + 1) (front ++ m ∷ []) rest (omega (arith, longer, e)) h.1 saw in
+    let moved : LeadsSeen model image seen others.steps (record { memory = memory; nodes = front ++ m ∷ back }) (record { memory = memory; nodes = front ++ m ∷ fetched_from model image harts (id + 1) rest }) =
+    subst (λ ns. LeadsSeen model image seen others.steps (record { memory = memory; nodes = front ++ m ∷ back }) (record { memory = memory; nodes = ns })) (append_assoc front (m ∷ []) (fetched_from model image harts (id + 1) rest))
+    (subst (λ ns. LeadsSeen model image seen others.steps (record { memory = memory; nodes = ns }) (record { memory = memory; nodes = (front ++ m ∷ []) ++ fetched_from model image harts (id + 1) rest })) (append_assoc front (m ∷ []) back) others.leads) in
     record {
       steps = map (Fetch (length front)) entries ++ others.steps;
-      leads = leads_append model image (map (Fetch (length front)) entries) others.steps (record { memory = memory; nodes = front ++ n ∷ back }) (record { memory = memory; nodes = front ++ m ∷ back }) (record { memory = memory; nodes = front ++ m ∷ fetched_from model image harts (id + 1) rest }) one moved;
+      leads = leads_append model image seen (map (Fetch (length front)) entries) others.steps (record { memory = memory; nodes = front ++ n ∷ back }) (record { memory = memory; nodes = front ++ m ∷ back }) (record { memory = memory; nodes = front ++ m ∷ fetched_from model image harts (id + 1) rest }) one moved;
     }
 
 -- ---- a run
@@ -368,13 +371,28 @@ harts_present model image harts id [] h k m e = absurd (none-some m e)
 harts_present model image harts id (entries ∷ rest) zero k m e = (fetched_all model (node_at_reset image harts id) entries, refl)
 harts_present model image harts id (entries ∷ rest) (suc h) k m e = harts_present model image harts (id + 1) rest h k m e
 
-follow : (config : Config) (t : History) → IsEnded t.image config t → length t.entries ≡ config.harts → IsFollowed t.image config t
-follow config t ended count = record {
+-- a beginning of what some elements give is what a beginning of them gives
+prefix : {X Y : Type 0} (f : X → Option Y) (xs : List X) (done rest : List Y) → filter_map f xs ≡ done ++ rest → (k : ℕ) × (filter_map f (take k xs) ≡ done)
+prefix f [] [] rest e = (0, refl)
+prefix f [] (d ∷ done) rest e = absurd (none-some d (ap (λ ys. slice_get ys 0) e))
+prefix {X = X} {Y = Y} f (x ∷ xs) done rest e = go (f x) refl done e (λ d h. prefix f xs d rest h)
+  where
+    go : (o : Option Y) → f x ≡ o → (ds : List Y) → cons_option o (filter_map f xs) ≡ ds ++ rest
+        → ((d : List Y) → filter_map f xs ≡ d ++ rest → (k : ℕ) × (filter_map f (take k xs) ≡ d))
+        → (k : ℕ) × (filter_map f (take k (x ∷ xs)) ≡ ds)
+    go None q ds h next = let r = next ds h in (suc r.0, ap (λ o. cons_option o (filter_map f (take r.0 xs))) q ∙ r.1)
+    go (Some y) q [] h next = (0, refl)
+    go (Some y) q (d ∷ ds) h next =
+        let r = next ds (ap (drop 1) h) in
+        (suc r.0, ap (λ o. cons_option o (filter_map f (take r.0 xs))) q ∙ ap (λ z. z ∷ filter_map f (take r.0 xs)) (same_Some y d (ap (λ ys. slice_get ys 0) h)) ∙ ap (λ ys. d ∷ ys) r.1)
+
+follow : (config : Config) (seen : (ℕ → ℕ) → Bool) (t : History) → IsEnded t.image config t → length t.entries ≡ config.harts → SeesOnly seen t → IsFollowed t.image config seen t
+follow config seen t ended count sees = record {
   steps = fetching.steps ++ placing.steps;
   end = placing.end;
   leads =
-      leads_append config.model t.image fetching.steps placing.steps (opening t.image config.harts) fetched_system placing.end
-      (subst (λ n. Leads config.model t.image fetching.steps (opening t.image n) fetched_system) count fetching.leads) placing.leads;
+      leads_append config.model t.image seen fetching.steps placing.steps (opening t.image config.harts) fetched_system placing.end
+      (subst (λ n. LeadsSeen config.model t.image seen fetching.steps (opening t.image n) fetched_system) count fetching.leads) placing.leads;
   ended = have_ended config.model t.image n 0 t.entries t.statuses placing.end.nodes placing.same empty ended.allowed.runs ended.ended;
   memory = placing.state.holds;
 }
@@ -394,8 +412,11 @@ follow config t ended count = record {
     fetched_system : System
     fetched_system = record { memory = byte_at t.image; nodes = fetched_from config.model t.image n 0 t.entries }
 
-    fetching : FetchedLists config.model t.image (byte_at t.image) n 0 [] t.entries
-    fetching = fetch_lists config.model t.image (byte_at t.image) n 0 [] t.entries refl (can_fetch_lists config.model t.image n 0 t.entries t.statuses ended.allowed.runs ended.reserved)
+    saws : (d r : List Operation) → whole ≡ d ++ r → seen (order.last_write (image_of t) d) ≡ true
+    saws d r e = let p = prefix (operation_at all) t.performed d r e in ap (λ ops. seen (order.last_write (image_of t) ops)) (sym p.1) ∙ sees p.0
+
+    fetching : FetchedLists config.model t.image seen (byte_at t.image) n 0 [] t.entries
+    fetching = fetch_lists config.model t.image seen (byte_at t.image) n 0 [] t.entries refl (can_fetch_lists config.model t.image n 0 t.entries t.statuses ended.allowed.runs ended.reserved) (saws [] whole refl)
 
     start : State config.model (image_of t) all [] whole fetched_system
     start = record {
@@ -407,13 +428,13 @@ follow config t ended count = record {
       present = λ a m. let o = legal.own a m in harts_present config.model t.image n 0 t.entries a.hart a.place o.item o.stands;
     }
 
-    placing : PlacedAll config.model t.image (image_of t) all whole fetched_system
-    placing = place_all config.model t.image (image_of t) all whole [] whole fetched_system legal refl start
+    placing : PlacedAll config.model t.image seen (image_of t) all whole fetched_system
+    placing = place_all config.model t.image seen (image_of t) all whole [] whole fetched_system legal refl start saws
 
     empty : (k : ℕ) (m : Node) → slice_get placing.end.nodes k ≡ Some m → m.window ≡ []
     empty k m e = let h = placing.state.harts k m e in nothing_waits config.model (items_of all k) h.ops m.window h.ops h.kept.window (λ j a f. h.kept.waits j a f)
 
 pub ended_are_followed : EndedAreFollowed
-ended_are_followed image config t ended =
-    subst (λ i. IsFollowed i config t) ended.image_is
-    (follow config t (subst (λ i. IsEnded i config t) (sym ended.image_is) ended) ended.harts)
+ended_are_followed image config seen t ended sees =
+    subst (λ i. IsFollowed i config seen t) ended.image_is
+    (follow config seen t (subst (λ i. IsEnded i config t) (sym ended.image_is) ended) ended.harts sees)
