@@ -10,7 +10,7 @@ use Rattle.coherent_log.specs.declared.verdict.Breach.{Breach}
 use Rattle.elf_loader.specs.Image.{Initial}
 use Rattle.tl_types.specs.declared.message.Body.{Body}
 
-module _ (image : Initial) (h line : ℕ) (body : Body) (clients : ℕ → ClientLog) (brought : Option Brought) where
+module _ (image : Option Initial) (h line : ℕ) (body : Body) (clients : ℕ → ClientLog) (brought : Option Brought) where
   abbrev pub Goes : CoherenceRule → Type 0
   Goes r = MayGoBy r image h line body clients brought
 

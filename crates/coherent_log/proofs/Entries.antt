@@ -1,5 +1,5 @@
 -- A coherent log entry by entry.
-use Rattle.std.proofs.Common.{ℕ, List, [], ◌∷◌, ◌++◌, ◌≡◌, refl, ap, sym, ◌∙◌, subst}
+use Rattle.std.proofs.Common.{ℕ, List, Option, [], ◌∷◌, ◌++◌, ◌≡◌, refl, ap, sym, ◌∙◌, subst}
 use Rattle.std.proofs.lemmas.List.{append_assoc}
 use mathlib.Core.Logic.{◌⊎◌, inl, inr}
 use Rattle.coherent_log.specs.Laws.{IsCoherentLog}
@@ -26,7 +26,7 @@ is_last_or_before (b ∷ before) rest (y ∷ log) x new e =
     go same (inl last) = inl ((λ i. same i ∷ last.0 i), last.1)
     go same (inr found) = inr (found.0, (λ i. same i ∷ found.1 i))
 
-module _ (image : Initial) where
+module _ (image : Option Initial) where
   pub none_coherent : IsCoherentLog image []
   none_coherent rule before rest e is = absurd (none_there before rest e is)
 

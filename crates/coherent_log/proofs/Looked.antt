@@ -10,7 +10,7 @@ use Rattle.coherent_log.specs.declared.verdict.Breach.{Breach}
 use Rattle.elf_loader.specs.Image.{Initial}
 use Rattle.tl_types.specs.declared.message.Body.{Body}
 
-module _ {S : Type 0} (image : Initial) (h line : ℕ) (body : Body) (m : HashMap ℕ LineLog S) (o : Option Breach) where
+module _ {S : Type 0} (image : Option Initial) (h line : ℕ) (body : Body) (m : HashMap ℕ LineLog S) (o : Option Breach) where
   abbrev FindsAt : Option LineLog → Type 0
   FindsAt there = FindsBroken image h line body (λ k. option_map_or (λ (l : LineLog). client_at l.clients.items k) there nothing_told) (option_map_or (λ (l : LineLog). l.brought) there None) o
 

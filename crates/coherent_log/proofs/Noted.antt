@@ -17,7 +17,7 @@ use Rattle.trace_recorder.specs.declared.logged.Direction.{Direction}
 use Rattle.trace_recorder.specs.declared.logged.Direction.TheVariants.{Sent, Taken}
 use Rattle.trace_recorder.specs.declared.logged.Logged.{Logged}
 
-module _ (image : Initial) (f : Followed) (log : List Logged) (e : Logged) (follows : Follows f log) where
+module _ (image : Option Initial) (f : Followed) (log : List Logged) (e : Logged) (follows : Follows f log) where
   abbrev clients : ℕ → ClientLog
   clients k = client_of k e.message.line log
 

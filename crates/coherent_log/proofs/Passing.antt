@@ -12,7 +12,7 @@ use Rattle.coherent_log.specs.declared.verdict.CoherenceVerdict.TheVariants.{Coh
 use Rattle.elf_loader.specs.Image.{Initial}
 use Rattle.trace_recorder.specs.declared.logged.Logged.{Logged}
 
-module _ (image : Initial) (log : List Logged) (i : ℕ) (d : Logged) (within : i < length log) where
+module _ (image : Option Initial) (log : List Logged) (i : ℕ) (d : Logged) (within : i < length log) where
   pub first_breach : (breach : Breach) (o : Option Breach) → IsCoherentLog image (take i log) → o ≡ Some breach → FindsBreach image (take i log) (get_or log i d) o → IsFirstBreach image log breach i
   first_breach breach o coherent is found =
       let here : FindsBreach image (take i log) (get_or log i d) (Some breach) = subst (FindsBreach image (take i log) (get_or log i d)) is found in
@@ -41,5 +41,5 @@ module _ (image : Initial) (log : List Logged) (i : ℕ) (d : Logged) (within : 
       seam : take i log ++ get_or log i d ∷ drop (i + 1) log ≡ log
       seam = sym (append_assoc (take i log) (get_or log i d ∷ []) (drop (i + 1) log)) ∙ ap (λ (l : List Logged). l ++ drop (i + 1) log) (sym (take_more log i d within)) ∙ take-append-drop (i + 1) log
 
-pub coherent_decides : (image : Initial) (log : List Logged) (i : ℕ) → length log ≤ i → IsCoherentLog image (take i log) → (Coherent ≡ Coherent) ↔ IsCoherentLog image log
+pub coherent_decides : (image : Option Initial) (log : List Logged) (i : ℕ) → length log ≤ i → IsCoherentLog image (take i log) → (Coherent ≡ Coherent) ↔ IsCoherentLog image log
 coherent_decides image log i past coherent = (λ same. subst (IsCoherentLog image) (take_all i log past) coherent, λ all. refl)

@@ -43,7 +43,7 @@ client_noted e i c = record {
 -- ---- which rule is broken, by what is told of each client and of the line's bytes
 
 -- the rule lets the message go, or this is why it doesn't
-abbrev pub FindsBy : CoherenceRule → Initial → (h line : ℕ) → Body → (ℕ → ClientLog) → Option Brought → Option Breach → Type 0
+abbrev pub FindsBy : CoherenceRule → Option Initial → (h line : ℕ) → Body → (ℕ → ClientLog) → Option Brought → Option Breach → Type 0
 FindsBy rule image h line body clients brought None = MayGoBy rule image h line body clients brought
 FindsBy rule image h line body clients brought (Some breach) = (rule_of breach ≡ rule) × (¬ MayGoBy rule image h line body clients brought) × IsCause breach h body clients brought
 
@@ -53,7 +53,7 @@ FindsHolder body h clients None = (other : ℕ) → ¬ (other ≡ h) → MayGoBe
 FindsHolder body h clients (Some found) = IsHolder body h clients found.0 × (found.1 ≡ (clients found.0).noted)
 
 -- each rule lets the message go, or this is the first that doesn't
-abbrev pub FindsBroken : Initial → (h line : ℕ) → Body → (ℕ → ClientLog) → Option Brought → Option Breach → Type 0
+abbrev pub FindsBroken : Option Initial → (h line : ℕ) → Body → (ℕ → ClientLog) → Option Brought → Option Breach → Type 0
 FindsBroken image h line body clients brought None = (r : CoherenceRule) → MayGoBy r image h line body clients brought
 FindsBroken image h line body clients brought (Some breach) =
     (¬ MayGoBy (rule_of breach) image h line body clients brought)
@@ -61,7 +61,7 @@ FindsBroken image h line body clients brought (Some breach) =
     × IsCause breach h body clients brought
 
 -- the entry keeps each rule behind the log, or this is the first that it breaks
-abbrev pub FindsBreach : Initial → List Logged → Logged → Option Breach → Type 0
+abbrev pub FindsBreach : Option Initial → List Logged → Logged → Option Breach → Type 0
 FindsBreach image log e None = (r : CoherenceRule) → Keeps r image log e
 FindsBreach image log e (Some breach) =
     (¬ Keeps (rule_of breach) image log e)

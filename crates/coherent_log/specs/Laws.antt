@@ -15,7 +15,7 @@ use Rattle.tl_types.specs.declared.message.Body.{Body}
 use Rattle.trace_recorder.specs.declared.logged.Logged.{Logged}
 
 -- each entry keeps each rule, behind those before it
-abbrev pub IsCoherentLog : Initial → List Logged → Type 0
+abbrev pub IsCoherentLog : Option Initial → List Logged → Type 0
 IsCoherentLog image log = (rule : CoherenceRule) (before rest : List Logged) (e : Logged) → before ++ e ∷ rest ≡ log → Keeps rule image before e
 
 abbrev pub rule_of : Breach → CoherenceRule
@@ -44,7 +44,7 @@ IsCause (breach.DataAsked held) h body clients brought = held ≡ (clients h).he
 IsCause (breach.DataKept index) h body clients brought = index ≡ index_in brought
 
 -- the entry at `index` is the first that breaks a rule, and the breach has the first of those that it breaks, and its cause
-pub record IsFirstBreach (image : Initial) (log : List Logged) (breach : Breach) (index : ℕ) : Type 0 where
+pub record IsFirstBreach (image : Option Initial) (log : List Logged) (breach : Breach) (index : ℕ) : Type 0 where
   pub entry : Logged
   pub stands : slice_get log index ≡ Some entry
   pub coherent_before : IsCoherentLog image (take index log)

@@ -73,14 +73,15 @@ IsDataAsked _ has = Unit {0}
 abbrev pub IsOfImage : Initial → (line : ℕ) → List ℕ → Type 0
 IsOfImage image line bytes = bytes ≡ take (length bytes) (drop (line - base) image.bytes)
 
--- data-kept: a Grant carries the bytes that the manager took last, and where it took none those of the image
-abbrev pub IsDataKept : Body → Initial → (line : ℕ) → Option Brought → Type 0
+-- data-kept: a Grant carries the bytes that were taken or granted last, and where none were those of the image, if it is known
+abbrev pub IsDataKept : Body → Option Initial → (line : ℕ) → Option Brought → Type 0
 IsDataKept (GrantData cap bytes) image line (Some brought) = bytes ≡ brought.bytes
-IsDataKept (GrantData cap bytes) image line None = IsOfImage image line (bytes_of bytes)
+IsDataKept (GrantData cap bytes) (Some image) line None = IsOfImage image line (bytes_of bytes)
+IsDataKept (GrantData cap bytes) None line None = Unit {0}
 IsDataKept _ image line brought = Unit {0}
 
 -- what a rule asks of a message of the line and the client, by what is told of each client, and of the line's bytes
-abbrev pub MayGoBy : CoherenceRule → Initial → (h line : ℕ) → Body → (ℕ → ClientLog) → Option Brought → Type 0
+abbrev pub MayGoBy : CoherenceRule → Option Initial → (h line : ℕ) → Body → (ℕ → ClientLog) → Option Brought → Type 0
 MayGoBy PermissionHeld image h line body clients brought = IsPermissionHeld body (perm_in (clients h).held)
 MayGoBy ProbeObeyed image h line body clients brought = IsProbeObeyed body (perm_in (clients h).held) (clients h).probe
 MayGoBy OneWriter image h line body clients brought = IsOneWriter body h (λ k. perm_in (clients k).noted)
@@ -88,11 +89,11 @@ MayGoBy DataAsked image h line body clients brought = IsDataAsked body (perm_in 
 MayGoBy DataKept image h line body clients brought = IsDataKept body image line brought
 
 -- an entry keeps a rule, behind a log; one that is taken keeps each
-abbrev pub KeepsGoing : Direction → CoherenceRule → Initial → (h line : ℕ) → Body → List Logged → Type 0
+abbrev pub KeepsGoing : Direction → CoherenceRule → Option Initial → (h line : ℕ) → Body → List Logged → Type 0
 KeepsGoing Sent rule image h line body log = MayGoBy rule image h line body (λ k. client_of k line log) (brought_of line log)
 KeepsGoing Taken rule image h line body log = Unit {0}
 
-abbrev pub Keeps : CoherenceRule → Initial → List Logged → Logged → Type 0
+abbrev pub Keeps : CoherenceRule → Option Initial → List Logged → Logged → Type 0
 Keeps rule image log e = KeepsGoing e.direction rule image e.hart e.message.line e.message.body log
 
 -- the rules' order

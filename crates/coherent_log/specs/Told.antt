@@ -42,8 +42,9 @@ abbrev pub probed : Direction → Body → Option Cap
 probed Taken (ProbeBlock cap) = Some cap
 probed _ _ = None
 
--- the bytes that have arrived at the manager
+-- the bytes that the manager has then: those that have arrived, or that it grants
 abbrev pub brought : Direction → Body → Option LineData
+brought Sent (GrantData cap bytes) = Some bytes
 brought Taken (ProbeAckData change bytes) = Some bytes
 brought Taken (ReleaseData change bytes) = Some bytes
 brought _ _ = None
@@ -93,6 +94,6 @@ client_of h line log = record {
   probe = latest_from 0 (tells_probe h line) log;
 }
 
--- the line's bytes at the manager, where some were brought
+-- the line's bytes at the manager, where some were brought or granted
 abbrev pub brought_of : ℕ → List Logged → Option Brought
 brought_of line log = latest_from 0 (tells_bytes line) log

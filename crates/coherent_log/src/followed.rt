@@ -1,6 +1,6 @@
 //! What a log says so far of each line, kept as the log grows.
 ghost use Rattle.std.specs.Prelude.{◌≡◌, ◌==◌, ℕ, List, ◌∷◌, ◌++◌, [], OnOk, if◌then◌else◌, length};
-ghost use Rattle.std.specs.Option.{option_or};
+ghost use Rattle.std.specs.Option.{option_copied, option_or};
 ghost use Rattle.coherent_log.specs.Followed.{FindsBreach, FindsBroken, Follows, brought_in, client_in, client_noted};
 ghost use Rattle.coherent_log.specs.Told as told;
 ghost use Rattle.coherent_log.specs.Told.{concerns, is_of_line};
@@ -37,8 +37,8 @@ impl Followed {
     }
 
     /// The first rule that the next entry breaks, with its cause.
-    pub(crate) fn broken(&self, image: &Image, entry: &Logged) -> Option<Breach>
-        ensures { (log : List LoggedValue) → Follows self.now log → FindsBreach image.now log entry.now result }
+    pub(crate) fn broken(&self, image: Option<&Image>, entry: &Logged) -> Option<Breach>
+        ensures { (log : List LoggedValue) → Follows self.now log → FindsBreach (option_copied image.entry) log entry.now result }
     {
         match entry.direction {
             Direction::Sent => broken_by_sending(&self.lines, image, entry),
@@ -60,8 +60,12 @@ impl Followed {
     }
 }
 
-fn broken_by_sending(lines: &HashMap<u32, LineLog>, image: &Image, entry: &Logged) -> Option<Breach>
-    ensures { FindsBroken image.now entry.now.hart entry.now.message.line entry.now.message.body (λ h. client_in lines.now h entry.now.message.line) (brought_in lines.now entry.now.message.line) result }
+fn broken_by_sending(
+    lines: &HashMap<u32, LineLog>,
+    image: Option<&Image>,
+    entry: &Logged,
+) -> Option<Breach>
+    ensures { FindsBroken (option_copied image.entry) entry.now.hart entry.now.message.line entry.now.message.body (λ h. client_in lines.now h entry.now.message.line) (brought_in lines.now entry.now.message.line) result }
 {
     match lines.get(&entry.message.line) {
         Some(line) => line.told().broken(image, entry),

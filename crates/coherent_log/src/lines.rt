@@ -1,6 +1,6 @@
 //! What a log says of a line, and the first rule that a message of it breaks.
 ghost use Rattle.std.specs.Prelude.{ℕ, ◌≡◌, ◌<◌, ◌↔◌, ◌==◌, ◌-◌, IsTrue, None, OnOk, drop, if◌then◌else◌, length, take};
-ghost use Rattle.std.specs.Option.{option_or};
+ghost use Rattle.std.specs.Option.{option_copied, option_or};
 ghost use Rattle.coherent_log.specs.Followed.{FindsBroken, FindsBy, FindsHolder, client_at, client_noted, nothing_told};
 ghost use Rattle.coherent_log.specs.Told as told;
 ghost use Rattle.coherent_log.specs.Rules.{IsDataKept, IsOfImage};
@@ -16,7 +16,7 @@ use std::alloc::{AllocError, Global};
 use tl_types::{Body, LineData};
 use trace_recorder::Logged;
 
-/// Bytes of a line that the manager took, with the number of their message, counted from 0.
+/// Bytes of a line that the manager took or granted, with the number of their message, counted from 0.
 #[derive(Clone, Copy)]
 pub(crate) struct Brought {
     pub(crate) bytes: LineData,
@@ -105,8 +105,8 @@ impl LineTold<'_> {
     };
 
     /// The first rule that the message breaks as it is sent, with its cause.
-    pub(crate) fn broken(&self, image: &Image, entry: &Logged) -> Option<Breach>
-        ensures { FindsBroken image.now entry.now.hart entry.now.message.line entry.now.message.body (client_at self.now.clients.now) self.now.brought result }
+    pub(crate) fn broken(&self, image: Option<&Image>, entry: &Logged) -> Option<Breach>
+        ensures { FindsBroken (option_copied image.entry) entry.now.hart entry.now.message.line entry.now.message.body (client_at self.now.clients.now) self.now.brought result }
     {
         for rule in CoherenceRule::ALL {
             match self.broken_by(rule, image, entry) {
@@ -118,8 +118,13 @@ impl LineTold<'_> {
     }
 
     // Whether the message breaks this rule.
-    fn broken_by(&self, rule: CoherenceRule, image: &Image, entry: &Logged) -> Option<Breach>
-        ensures { FindsBy rule image.now entry.now.hart entry.now.message.line entry.now.message.body (client_at self.now.clients.now) self.now.brought result }
+    fn broken_by(
+        &self,
+        rule: CoherenceRule,
+        image: Option<&Image>,
+        entry: &Logged,
+    ) -> Option<Breach>
+        ensures { FindsBy rule (option_copied image.entry) entry.now.hart entry.now.message.line entry.now.message.body (client_at self.now.clients.now) self.now.brought result }
     {
         let body = &entry.message.body;
         let client = self.client(entry.hart);
@@ -181,12 +186,15 @@ impl LineTold<'_> {
         None
     }
 
-    fn is_data_kept(&self, image: &Image, line: u32, body: &Body) -> bool
-        ensures { IsTrue result ↔ IsDataKept body.now image.now line self.now.brought }
+    fn is_data_kept(&self, image: Option<&Image>, line: u32, body: &Body) -> bool
+        ensures { IsTrue result ↔ IsDataKept body.now (option_copied image.entry) line self.now.brought }
     {
         match (body, &self.brought) {
             (Body::GrantData { bytes, .. }, Some(brought)) => is_same(bytes, &brought.bytes),
-            (Body::GrantData { bytes, .. }, None) => is_of_image(image, line, bytes.as_slice()),
+            (Body::GrantData { bytes, .. }, None) => match image {
+                Some(image) => is_of_image(image, line, bytes.as_slice()),
+                None => true,
+            },
             _ => true,
         }
     }

@@ -51,14 +51,14 @@ pub(crate) fn probed(entry: &Logged) -> Option<Cap>
     }
 }
 
-/// The bytes that the entry brings to the manager.
+/// The bytes that the entry brings to the manager, or that the manager grants.
 pub(crate) fn brought(entry: &Logged) -> Option<LineData>
     ensures { result ≡ told.brought entry.now.direction entry.now.message.body }
 {
     match (entry.direction, entry.message.body) {
-        (Direction::Taken, Body::ProbeAckData { bytes, .. } | Body::ReleaseData { bytes, .. }) => {
-            Some(bytes)
-        }
+        (Direction::Sent, Body::GrantData { bytes, .. })
+        | (Direction::Taken, Body::ProbeAckData { bytes, .. } | Body::ReleaseData { bytes, .. }) =>
+            { Some(bytes) }
         _ => None,
     }
 }

@@ -19,8 +19,8 @@ pub enum CoherenceRule {
     OneWriter,
     /// Data comes from a client that has Trunk.
     DataAsked,
-    /// A Grant carries the bytes that the last ProbeAckData or ReleaseData brought to the manager, or where none
-    /// did those of the image.
+    /// A Grant carries the bytes that the last ProbeAckData or ReleaseData brought to the manager, or that the last
+    /// Grant carried; where there is none those of the image, if it is known.
     DataKept,
 }
 

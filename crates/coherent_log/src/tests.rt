@@ -67,7 +67,8 @@ fn two_writers(rt: HostRuntime) -> Result<(), Fail> {
     let mut log = Vec::new(alloc);
     add(&mut log, &WRITER)?;
     add(&mut log, &SECOND_WRITER)?;
-    match check_coherence(alloc, &image(alloc)?, &log)? {
+    let image = image(alloc)?;
+    match check_coherence(alloc, Some(&image), &log)? {
         CoherenceVerdict::Coherent => assert!(&rt; false, "two writers"),
         CoherenceVerdict::Incoherent { breach, index } => {
             assert_eq!(&rt; breach.rule(), CoherenceRule::OneWriter);
@@ -84,7 +85,8 @@ fn one_writer_after_the_other(rt: HostRuntime) -> Result<(), Fail> {
     add(&mut log, &WRITER)?;
     add(&mut log, &GIVEN_UP)?;
     add(&mut log, &SECOND_WRITER)?;
-    let verdict = check_coherence(alloc, &image(alloc)?, &log)?;
+    let image = image(alloc)?;
+    let verdict = check_coherence(alloc, Some(&image), &log)?;
     assert_eq!(&rt; verdict, CoherenceVerdict::Coherent);
     Ok(())
 }

@@ -32,7 +32,7 @@ pub enum Breach {
         held: Option<Held>,
     },
     DataKept {
-        /// The message that brought the line's bytes, counted from 0; none where they are the image's.
+        /// The message that brought or granted the line's bytes, counted from 0; none where they are the image's.
         brought: Option<usize>,
     },
 }

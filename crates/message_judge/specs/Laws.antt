@@ -1,0 +1,43 @@
+-- Lawful messages, and the first message of another log that breaks a rule.
+use Rattle.std.specs.Prelude.{ℕ, ◌≡◌, ◌+◌, ◌↔◌, List, Option, take}
+use Rattle.coherent_log.specs.Laws as coherence
+use Rattle.coherent_log.specs.Laws.{IsCoherentLog}
+use Rattle.coherent_log.specs.declared.verdict.CoherenceVerdict.{CoherenceVerdict}
+use Rattle.coherent_log.specs.declared.verdict.CoherenceVerdict.TheVariants.{Coherent}
+use Rattle.elf_loader.specs.Image.{Initial}
+use Rattle.lawful_log.specs.Laws as order
+use Rattle.lawful_log.specs.declared.rule.LogVerdict.{LogVerdict}
+use Rattle.lawful_log.specs.declared.rule.LogVerdict.TheVariants.{Lawful}
+use Rattle.machine_model.specs.LawfulLog.{IsLawfulLog}
+use Rattle.message_judge.specs.declared.verdict.MessageBreach.{MessageBreach}
+use Rattle.message_judge.specs.declared.verdict.MessageBreach.TheVariants.{Incoherent, Unlawful}
+use Rattle.message_judge.specs.declared.verdict.MessageVerdict.{MessageVerdict}
+use Rattle.message_judge.specs.declared.verdict.MessageVerdict.TheVariants as message
+use Rattle.trace_recorder.specs.declared.logged.Logged.{Logged}
+
+-- each message keeps each rule of both kinds, where memory begins as the image says, if it is known
+abbrev pub AreLawfulMessages : Option Initial → List Logged → Type 0
+AreLawfulMessages image log = IsLawfulLog log × IsCoherentLog image log
+
+-- the messages before it are lawful, and it breaks a rule: of the lawful log the first that it breaks, or of the coherent log, if it breaks none of the lawful log
+abbrev pub IsFirstFault : Option Initial → List Logged → MessageBreach → ℕ → Type 0
+IsFirstFault image log (Unlawful rule) index = order.IsFirstBreach log rule index × IsCoherentLog image (take index log)
+IsFirstFault image log (Incoherent breach) index = coherence.IsFirstBreach image log breach index × IsLawfulLog (take (index + 1) log)
+
+abbrev pub IfUnlawful : MessageVerdict → (MessageBreach → ℕ → Type 0) → Type 0
+IfUnlawful message.Lawful P = Unit {0}
+IfUnlawful (message.Unlawful breach index) P = P breach index
+
+-- the verdict on a log: lawful, or the first message that breaks a rule, and which
+pub record IsMessageVerdict (image : Option Initial) (log : List Logged) (v : MessageVerdict) : Type 0 where
+  pub lawful : (v ≡ message.Lawful) ↔ AreLawfulMessages image log
+  pub unlawful : IfUnlawful v (λ breach index. IsFirstFault image log breach index)
+
+-- those of the two judges
+pub record IsLogVerdict (log : List Logged) (v : LogVerdict) : Type 0 where
+  pub lawful : (v ≡ Lawful) ↔ IsLawfulLog log
+  pub unlawful : order.IfUnlawful v (λ rule index. order.IsFirstBreach log rule index)
+
+pub record IsCoherenceVerdict (image : Option Initial) (log : List Logged) (v : CoherenceVerdict) : Type 0 where
+  pub coherent : (v ≡ Coherent) ↔ IsCoherentLog image log
+  pub incoherent : coherence.IfIncoherent v (λ breach index. coherence.IsFirstBreach image log breach index)

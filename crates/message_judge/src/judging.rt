@@ -1,0 +1,81 @@
+//! The verdict of both judges.
+ghost use Rattle.std.specs.Prelude.{IfOk, List, Option};
+ghost use Rattle.std.specs.Option.{option_copied};
+ghost use Rattle.elf_loader.specs.Image.{Initial};
+ghost use Rattle.message_judge.specs.Laws.{IsCoherenceVerdict, IsLogVerdict, IsMessageVerdict};
+ghost use Rattle.trace_recorder.specs.declared.logged.Logged.{Logged as LoggedValue};
+
+use crate::verdict::{MessageBreach, MessageVerdict};
+use coherent_log::{Breach, CoherenceVerdict, check_coherence};
+use elf_loader::Image;
+use lawful_log::{LogRule, LogVerdict, check_log};
+use std::alloc::{AllocError, Global};
+use trace_recorder::Logged;
+
+/// Whether each message of a log keeps the rules of the lawful log and those of the coherent log, where no client has
+/// a permission at the start, and memory begins as the image says, or with bytes that aren't known; and where one
+/// doesn't, the first, with the first rule that it breaks: those of the lawful log come first. Each judge goes over
+/// the log once. The only error is want of memory.
+pub fn judge_messages(
+    alloc: Global,
+    image: Option<&Image>,
+    log: &[Logged],
+) -> Result<MessageVerdict, AllocError>
+    ensures { IfOk result (IsMessageVerdict (option_copied image.entry) log.now) }
+{
+    let lawful = check_log(alloc, log)?;
+    let coherent = check_coherence(alloc, image, log)?;
+    Ok(earlier(lawful, coherent))
+}
+
+/// The verdict of both: of two breaches the earlier, of one message's that of the lawful log.
+fn earlier(lawful: LogVerdict, coherent: CoherenceVerdict) -> MessageVerdict
+    ensures { (image : Option Initial) (log : List LoggedValue) → IsLogVerdict log lawful → IsCoherenceVerdict image log coherent → IsMessageVerdict image log result }
+{
+    match lawful {
+        LogVerdict::Lawful => where_lawful(coherent),
+        LogVerdict::Unlawful { rule, index } => where_unlawful(rule, index, coherent),
+    }
+}
+
+fn where_lawful(coherent: CoherenceVerdict) -> MessageVerdict
+    ensures { (image : Option Initial) (log : List LoggedValue) → IsLogVerdict log LogVerdict.Lawful → IsCoherenceVerdict image log coherent → IsMessageVerdict image log result }
+{
+    match coherent {
+        CoherenceVerdict::Coherent => MessageVerdict::Lawful,
+        CoherenceVerdict::Incoherent { breach, index } => MessageVerdict::Unlawful {
+            breach: MessageBreach::Incoherent(breach),
+            index,
+        },
+    }
+}
+
+fn where_unlawful(rule: LogRule, index: usize, coherent: CoherenceVerdict) -> MessageVerdict
+    ensures { (image : Option Initial) (log : List LoggedValue) → IsLogVerdict log (LogVerdict.Unlawful rule index) → IsCoherenceVerdict image log coherent → IsMessageVerdict image log result }
+{
+    match coherent {
+        CoherenceVerdict::Coherent => MessageVerdict::Unlawful {
+            breach: MessageBreach::Unlawful(rule),
+            index,
+        },
+        CoherenceVerdict::Incoherent {
+            breach,
+            index: other,
+        } => first_of(rule, index, breach, other),
+    }
+}
+
+fn first_of(rule: LogRule, index: usize, breach: Breach, other: usize) -> MessageVerdict
+    ensures { (image : Option Initial) (log : List LoggedValue) → IsLogVerdict log (LogVerdict.Unlawful rule index) → IsCoherenceVerdict image log (CoherenceVerdict.Incoherent breach other) → IsMessageVerdict image log result }
+{
+    if other < index {
+        return MessageVerdict::Unlawful {
+            breach: MessageBreach::Incoherent(breach),
+            index: other,
+        };
+    }
+    MessageVerdict::Unlawful {
+        breach: MessageBreach::Unlawful(rule),
+        index,
+    }
+}

@@ -1,0 +1,9 @@
+//! Whether a log of messages is lawful by the rules of the lawful log and by those of the coherent log, and the
+//! first message that breaks one where it isn't.
+#![tactic(auto)]
+
+mod judging;
+mod verdict;
+
+pub use judging::judge_messages;
+pub use verdict::{MessageBreach, MessageVerdict};
