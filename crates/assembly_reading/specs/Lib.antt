@@ -1,0 +1,9 @@
+pub mod Tables
+pub mod Suffixes
+pub mod Registers
+pub mod Sets
+pub mod Forms
+pub mod Numbers
+pub mod Operands
+pub mod Formats
+pub mod Reading
