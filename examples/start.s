@@ -1,6 +1,7 @@
 # Where a C program begins: each hart gets 1 KiB of stack, calls main(hart, harts), and exits with
 # what main returns.
 
+        .file   "start.s"
         .section .text.start
         .globl  _start
 _start: la      sp, stacks_end
