@@ -1,6 +1,7 @@
 -- What the program's words ask for, as the kit reads the words for the program's usage.
-use Rattle.std.specs.Prelude.{ℕ, ◌≡◌, ◌≢◌, ◌<◌, ◌≤◌, ◌∷◌, [], Bool, true, false, List, None, Option, Some, codes, if◌then◌else◌, map, option_map, unwrap_or}
+use Rattle.std.specs.Prelude.{ℕ, ◌≡◌, ◌≢◌, ◌==◌, ◌<◌, ◌≤◌, ◌∷◌, ◌||◌, ◌⊎◌, [], Bool, true, false, IsSomeAnd, List, None, Option, Some, codes, if◌then◌else◌, map, option_map, unwrap_or}
 use Rattle.std.specs.Borrow.{Bor}
+use Rattle.std.specs.List.{list_all, list_any, slice_split}
 use Rattle.std.specs.Str.{bytes_eq}
 use Rattle.std.specs.Str.Parse.{IsNumeral, digits_value, without_leading_plus}
 use Rattle.clap.specs.Values.{IsUnsignedIn}
@@ -99,6 +100,7 @@ pub record IsExploreMeant (rows : List Row) (explore : Explore) : Type 0 where
   pub states : IsNumberIn (codes "states") least_limit most_limit rows explore.states
   pub scripts : IsOptional (codes "scripts") rows explore.scripts
   pub allow : IsOptional (codes "allow") rows explore.allow
+  pub fail_on : IsOptional (codes "fail-on") rows explore.fail_on
   pub sample : IsNumberIn (codes "sample") 0 most_limit rows explore.sample
   pub seed : IsNumberIn (codes "seed") 0 most_size rows explore.seed
   pub architecture : IsFlag (codes "architecture") rows explore.architecture
@@ -141,9 +143,42 @@ IsAsked name rows (settings.Explore explore) = IsMeant name rows (settings.Explo
 IsAsked name rows (settings.Show show) = (name ≡ codes "explore") × IsShowMeant rows show
 IsAsked name rows (settings.Check check) = IsMeant name rows (settings.Check check)
 
+-- ---- what doesn't go together
+
+-- the words of a list with a comma between each two
+abbrev pub words_in : Text → List Text
+words_in list = slice_split (λ b. b == 44) list
+
+-- one of them is this one
+abbrev pub has_word : (word list : Text) → Bool
+has_word word list = list_any (λ each. bytes_eq each word) (words_in list)
+
+-- a list was given, and has the word
+abbrev pub lists : (word : Text) → Option (Bor Text) → Bool
+lists word None = false
+lists word (Some list) = has_word word list.now
+
+-- what a search may come to
+abbrev pub is_condition : Text → Bool
+is_condition word = bytes_eq word (codes "failure") || (bytes_eq word (codes "stuck") || bytes_eq word (codes "incomplete"))
+
+abbrev pub are_conditions : Text → Bool
+are_conditions list = list_all is_condition (words_in list)
+
 -- random runs of the machine are asked for, and what the memory model allows: one of them has to be left out
+abbrev pub IsTwofold : Explore → Type 0
+IsTwofold explore = (explore.architecture ≡ true) × (0 < explore.sample)
+
+-- the search is to fail on states from which no schedule ends, which random runs and a search of the memory model don't look for
+abbrev pub IsBlind : Explore → Type 0
+IsBlind explore = (lists (codes "stuck") explore.fail_on ≡ true) × ((explore.architecture ≡ true) ⊎ (0 < explore.sample))
+
+-- a list was given of what the search is to fail on, and has another word
+abbrev pub IsUnknown : Explore → Type 0
+IsUnknown explore = IsSomeAnd explore.fail_on (λ list. are_conditions list.now ≡ false)
+
 abbrev pub HasConflict : Explore → Type 0
-HasConflict explore = (explore.architecture ≡ true) × (0 < explore.sample)
+HasConflict explore = IsTwofold explore ⊎ (IsUnknown explore ⊎ IsBlind explore)
 
 abbrev pub AreConflicting : Settings → Type 0
 AreConflicting (settings.Explore explore) = HasConflict explore

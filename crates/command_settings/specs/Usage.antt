@@ -126,12 +126,13 @@ run_arguments =
     ∷ file (codes "IMAGE")
     ∷ []
 
--- `[--states LIMIT] [--scripts FOLDER] [--allow FILE]`
+-- `[--states LIMIT] [--scripts FOLDER] [--allow FILE] [--fail-on LIST]`
 abbrev pub search_arguments : List Argument
 search_arguments =
     number (codes "states") (codes "4000000") least_limit most_limit
     ∷ optional (codes "scripts")
     ∷ optional (codes "allow")
+    ∷ optional (codes "fail-on")
     ∷ []
 
 -- `[--sample RUNS] [--seed S]`

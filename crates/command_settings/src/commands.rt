@@ -5,8 +5,8 @@ ghost use Rattle.clap.specs.Words.{App, Rule, app_of, new_app, rule_of, with_rul
 ghost use Rattle.command_settings.specs.Usage.{AreModelNames, ModelNames, IsUsage, app_for, chart, check, explain, explore, file_rule, flag_rule, least_limit, least_window, machine_arguments, model_rule, most_limit, most_size, most_window, named_rule, number_rule, optional_rule, repeated_rule, replay, replay_arguments, required_rule, run, sample_arguments, search_arguments, window_arguments, with_arguments};
 
 use crate::help::{
-    ALLOW_HELP, CHART_HELP, CHECK_HELP, EXPLAIN_HELP, EXPLORE_HELP, LINE_HELP, PROGRAM_HELP,
-    REPLAY_HELP, RUN_HELP, SCRIPTS_HELP, SHOW_HELP,
+    ALLOW_HELP, CHART_HELP, CHECK_HELP, EXPLAIN_HELP, EXPLORE_HELP, FAIL_ON_HELP, LINE_HELP,
+    PROGRAM_HELP, REPLAY_HELP, RUN_HELP, SCRIPTS_HELP, SHOW_HELP,
 };
 use clap::builder::ValueParser;
 use clap::{Arg, ArgAction, Command};
@@ -187,7 +187,8 @@ fn with_search<'a>(
 {
     let command = add_arg(command, states(alloc));
     let command = add_arg(command, scripts(alloc));
-    add_arg(command, allow(alloc))
+    let command = add_arg(command, allow(alloc));
+    add_arg(command, fail_on(alloc))
 }
 
 /// Random runs in place of a search.
@@ -363,6 +364,13 @@ fn allow<'a>(alloc: Global) -> Arg<'a>
     ensures local { result.global ≡ false }
 {
     optional(alloc, "allow", "FILE", ALLOW_HELP)
+}
+
+fn fail_on<'a>(alloc: Global) -> Arg<'a>
+    ensures rule { rule_of result ≡ optional_rule (codes "fail-on") }
+    ensures local { result.global ≡ false }
+{
+    optional(alloc, "fail-on", "LIST", FAIL_ON_HELP)
 }
 
 fn show<'a>(alloc: Global) -> Arg<'a>

@@ -140,6 +140,9 @@ pub(crate) const SCRIPTS_HELP: &str =
 pub(crate) const ALLOW_HELP: &str =
     "the file with the allowed outcomes, a line each as printed, with or without its number; where another is found its number is told and the status is 3";
 
+pub(crate) const FAIL_ON_HELP: &str =
+    "what the search may not come to, with a comma between each two: failure (a hart stopped in an outcome), stuck (from some state no schedule ends), incomplete (not all was searched); where it comes to one it is told and the status is 3";
+
 pub(crate) const CHECK_HELP: &str =
     "Prints legal, or with status 3 a fault: its code and two operations, as HART:PLACE, that show it.
 PLACE counts the hart's R lines from 0. Codes 1 to 13 are the rules of preserved program order, by which

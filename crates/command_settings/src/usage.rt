@@ -16,10 +16,6 @@ use machine_types::MemoryModel;
 use std::alloc::{AllocError, Global};
 use std::convert::AsStr;
 
-/// What to do where random runs are to be made, and the memory model searched.
-const CONFLICT: &str =
-    "--sample makes random runs of the machine, --architecture searches the memory model: leave out one of them";
-
 /// What the words ask for, of which the first is the program's name.
 pub fn settings<'a, S: AsStr>(alloc: Global, words: &'a [S]) -> Result<Settings<'a>, SettingsError>
     ensures named { IfOk result (IsNamed (map S.text words.entry.now)) }
@@ -71,9 +67,9 @@ fn agreeing<'a>(
     ensures agreeing { IfOk result (λ agreed. AreConflicting agreed → ⊥) }
     ensures told { IfErr result (TellsConflict settings.entry) }
 {
-    if settings.have_conflict() {
-        let conflict = command.error(ErrorKind::ArgumentConflict, CONFLICT)?;
-        return Err(SettingsError::Usage(conflict));
+    if let Some(conflict) = settings.conflict() {
+        let error = command.error(ErrorKind::ArgumentConflict, conflict)?;
+        return Err(SettingsError::Usage(error));
     }
     Ok(settings)
 }
@@ -216,6 +212,7 @@ fn explore_of<'a>(matches: &ArgMatches<'a>) -> Option<Explore<'a>>
         states: number_of(matches, "states")?,
         scripts: matches.get_str("scripts"),
         allow: matches.get_str("allow"),
+        fail_on: matches.get_str("fail-on"),
         sample: number_of(matches, "sample")?,
         seed: number_of(matches, "seed")?,
         architecture: matches.get_flag("architecture"),

@@ -1,12 +1,24 @@
 //! What the words of the command line ask for.
 
-ghost use Rattle.std.specs.Prelude.{◌↔◌, IsTrue};
-ghost use Rattle.command_settings.specs.Settings.{AreConflicting, HasConflict};
+ghost use Rattle.std.specs.Prelude.{◌↔◌, ◌≡◌, IsSome, IsTrue};
+ghost use Rattle.command_settings.specs.Settings.{AreConflicting, HasConflict, IsBlind, IsTwofold, IsUnknown, are_conditions, has_word, is_condition, lists};
 
 use clap::error::ErrorKind;
 use machine_types::MemoryModel;
 use std::alloc::AllocError;
 use thiserror::Error;
+
+/// What to do where random runs are to be made, and the memory model searched.
+const TWOFOLD: &str =
+    "--sample makes random runs of the machine, --architecture searches the memory model: leave out one of them";
+
+/// What to do where a search is to fail on what it doesn't look for.
+const BLIND: &str =
+    "neither --sample nor --architecture looks for states from which no schedule ends: leave out --fail-on stuck";
+
+/// What to do where a search is to fail on what there isn't.
+const UNKNOWN: &str =
+    "--fail-on takes failure, stuck or incomplete, or several of them with a comma between each two";
 
 /// Apply the events of the file `script` to a machine that begins with the file `image`, which has bare
 /// words where `raw` is set, and else is an ELF file.
@@ -78,6 +90,8 @@ pub struct Explore<'a> {
     pub scripts: Option<&'a str>,
     /// The file with the outcomes that are allowed.
     pub allow: Option<&'a str>,
+    /// What the search may not come to: `failure`, `stuck` or `incomplete`, with a comma between each two.
+    pub fail_on: Option<&'a str>,
     /// How many random runs to make in place of a search: 0 to 1000000000, and none where it is 0.
     pub sample: u32,
     /// What the random runs begin from.
@@ -90,11 +104,75 @@ pub struct Explore<'a> {
 }
 
 impl Explore<'_> {
-    fn has_conflict(&self) -> bool
-        ensures { IsTrue result ↔ HasConflict self.now }
+    /// Whether the search may not come to this.
+    pub fn fails_on(&self, condition: &str) -> bool
+        ensures { result ≡ lists condition.now self.now.fail_on }
+    {
+        match self.fail_on {
+            Some(list) => has_word(list, condition),
+            None => false,
+        }
+    }
+
+    /// Whether random runs are asked for, and a search of the memory model.
+    fn is_twofold(&self) -> bool
+        ensures { IsTrue result ↔ IsTwofold self.now }
     {
         self.architecture && 0 < self.sample
     }
+
+    /// Whether the search is to fail on states from which no schedule ends, and doesn't look for them.
+    fn is_blind(&self) -> bool
+        ensures { IsTrue result ↔ IsBlind self.now }
+    {
+        self.fails_on("stuck") && (self.architecture || 0 < self.sample)
+    }
+
+    /// Whether the search is to fail on what there isn't.
+    fn is_unknown(&self) -> bool
+        ensures { IsTrue result ↔ IsUnknown self.now }
+    {
+        match self.fail_on {
+            Some(list) => !are_conditions(list),
+            None => false,
+        }
+    }
+
+    /// What doesn't go together, and what to do, if there is anything.
+    fn conflict(&self) -> Option<&'static str>
+        ensures { IsSome result ↔ HasConflict self.now }
+    {
+        if self.is_twofold() {
+            Some(TWOFOLD)
+        } else if self.is_unknown() {
+            Some(UNKNOWN)
+        } else if self.is_blind() {
+            Some(BLIND)
+        } else {
+            None
+        }
+    }
+}
+
+/// Whether one of the words of the list is this one.
+fn has_word(list: &str, word: &str) -> bool
+    ensures { result ≡ has_word word.now list.now }
+{
+    list.split(',').any(|each| each == word)
+}
+
+/// Whether a search can come to this.
+fn is_condition(word: &str) -> bool
+    ensures { result ≡ is_condition word.now }
+{
+    matches!(word, "failure" | "stuck" | "incomplete")
+}
+
+/// Whether a search can come to each word of the list.
+fn are_conditions(list: &str) -> bool
+    ensures { result ≡ are_conditions list.now }
+{
+    list.split(',').all(|each| is_condition(each))
 }
 
 /// Explore until no store waits, and show words of memory at the ends.
@@ -128,18 +206,18 @@ pub enum Settings<'a> {
 }
 
 impl Settings<'_> {
-    /// Whether random runs of the machine are asked for, and what the memory model allows.
-    pub(crate) fn have_conflict(&self) -> bool
-        ensures { IsTrue result ↔ AreConflicting self.now }
+    /// What doesn't go together, and what to do, if there is anything.
+    pub(crate) fn conflict(&self) -> Option<&'static str>
+        ensures { IsSome result ↔ AreConflicting self.now }
     {
         match self {
-            Settings::Explore(explore) => explore.has_conflict(),
-            Settings::Show(show) => show.explore.has_conflict(),
+            Settings::Explore(explore) => explore.conflict(),
+            Settings::Show(show) => show.explore.conflict(),
             Settings::Replay(_)
             | Settings::Run(_)
             | Settings::Explain(_)
             | Settings::Chart(_)
-            | Settings::Check(_) => false,
+            | Settings::Check(_) => None,
         }
     }
 }

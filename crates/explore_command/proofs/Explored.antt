@@ -11,7 +11,7 @@ use Rattle.command_files.specs.declared.fault.Fault.TheVariants.{OutOfMemory}
 use Rattle.command_settings.specs.declared.wanted.Explore.{Explore}
 use Rattle.elf_loader.specs.Image.{Initial}
 use Rattle.exploration_text.specs.Text.{exploration_text, harts_text}
-use Rattle.explore_command.specs.Exploring.{IsAllowFile, IsExploreFault, IsExplorationTold, IsFoundIn, ExplorationHas, ExplorationRefusals, LeavesPart}
+use Rattle.explore_command.specs.Exploring.{IsAllowFile, IsExploreFault, IsExplorationTold, IsFoundIn, ExplorationHas, ExplorationRefusals, LeavesPart, exploration_fails}
 use Rattle.explore_command.specs.Judging.{HaveRefusals, IsJudged, judgement_of_lines}
 use Rattle.explore_command.specs.Keeping.{AreKept, HasName, IsInNamed, IsScriptOf, SparesOthers}
 use Rattle.explore_command.specs.declared.judging.Judgement.{Judgement}
@@ -60,11 +60,11 @@ spared_after IsWritten held mid left same spares name = elim (spares name) [
 ]
 
 -- what one file's bytes say of the lines, all files say
-pub judged : (held : Contents) (allow : Option Name) (text : Option (List ℕ)) (lines : List (List ℕ)) (judgement : Judgement) → IsAllowFile held allow text → judgement ≡ judgement_of_lines text lines → IsJudged held allow lines judgement
-judged held None None lines judgement read is = is
-judged held None (Some text) lines judgement read is = absurd read
-judged held (Some file) None lines judgement read is = absurd read
-judged held (Some file) (Some text) lines judgement read is = (text, read, is)
+pub judged : (held : Contents) (allow : Option Name) (text : Option (List ℕ)) (lines : List (List ℕ)) (fails : List ℕ) (judgement : Judgement) → IsAllowFile held allow text → judgement ≡ judgement_of_lines text lines fails → IsJudged held allow lines fails judgement
+judged held None None lines fails judgement read is = is
+judged held None (Some text) lines fails judgement read is = absurd read
+judged held (Some file) None lines fails judgement read is = absurd read
+judged held (Some file) (Some text) lines fails judgement read is = (text, read, is)
 
 module _ (held : Contents) (wanted : Explore) (config : Config) (image : Initial) (found : Exploration)
     (inside : IsInside wanted.machine) (config_is : config ≡ config_named wanted.machine inside) (file : HoldsImage held wanted.raw wanted.image.now wanted.machine.memory image) (is : IsFoundIn image config wanted.states found) where
@@ -76,7 +76,7 @@ module _ (held : Contents) (wanted : Explore) (config : Config) (image : Initial
 
   pub whole : (old new : Option (List ℕ)) (left : Contents) (judgement : Judgement) → Appends old new (exploration_text found) → HasName wanted.scripts → IfSome wanted.scripts (λ folder. AreKept left config wanted.machine.memory folder.now found)
       → SparesOthers (IsInNamed wanted.scripts (IsScriptOf (length found.outcomes.items) found.stuck)) held left
-      → IsJudged held wanted.allow (map (λ f. harts_text 0 (outcome_of f)) found.outcomes.items) judgement → (judgement ≡ Allowed → found.extent ≢ extent.OutOfMemory) → IsExplorationTold held left wanted judgement old new
+      → IsJudged held wanted.allow (map (λ f. harts_text 0 (outcome_of f)) found.outcomes.items) (exploration_fails wanted.fail_on found) judgement → (judgement ≡ Allowed → found.extent ≢ extent.OutOfMemory) → IsExplorationTold held left wanted judgement old new
   whole old new left judgement told named kept spares by memory = record {
     image = image;
     exploration = found;
@@ -91,7 +91,7 @@ module _ (held : Contents) (wanted : Explore) (config : Config) (image : Initial
     whole = memory;
   }
 
-  pub refusals : (old new : Option (List ℕ)) (P : List ℕ → Type 0) → Appends old new (exploration_text found) → HaveRefusals held wanted.allow (map (λ f. harts_text 0 (outcome_of f)) found.outcomes.items) P
+  pub refusals : (old new : Option (List ℕ)) (P : List ℕ → Type 0) → Appends old new (exploration_text found) → HaveRefusals held wanted.allow (map (λ f. harts_text 0 (outcome_of f)) found.outcomes.items) (exploration_fails wanted.fail_on found) P
       → ExplorationRefusals held wanted old new P
   refusals old new P printed so = record { image = image; exploration = found; image_file = file; inside = inside; found = is_found; printed = printed; refusals = so }
 

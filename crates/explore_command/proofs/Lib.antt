@@ -10,3 +10,4 @@ mod ModelKept
 mod Remarked
 mod Readable
 mod Searched
+pub mod NeverStops

@@ -8,7 +8,7 @@ use Rattle.command_files.specs.Contents.{Contents}
 use Rattle.command_files.specs.declared.fault.Fault.{Fault}
 use Rattle.explore_command.specs.Allowing.{is_allowed_line, without_number}
 use Rattle.explore_command.specs.Exploring.{IsAllowFile}
-use Rattle.explore_command.specs.Judging.{HaveRefusals, IsToldBy, are_allowed_lines, judgement_of_lines, refusal_line, refusal_lines, refusals}
+use Rattle.explore_command.specs.Judging.{HaveRefusals, IsToldBy, are_allowed, are_allowed_lines, judgement_of_lines, refusal_line, refusal_lines, refusals}
 use Rattle.explore_command.specs.declared.judging.Judgement.{Judgement}
 use Rattle.explore_command.specs.declared.judging.Judgement.TheVariants.{Allowed, NotAllowed}
 use Rattle.text_fields.proofs.Written.{appends_none}
@@ -34,33 +34,39 @@ all_of text number [] so = refl
 all_of text number (line ∷ rest) so =
     all_of_first (is_allowed_line text (without_number line)) number (refusal_lines text (number + 1) rest) (are_allowed_lines text rest) (all_of text (number + 1) rest) so
 
-allowed : (text : List ℕ) (lines : List (List ℕ)) → refusal_lines text 1 lines ≡ [] → judgement_of_lines (Some text) lines ≡ Allowed
-allowed text lines none = ap (λ (b : Bool). if b then Allowed else NotAllowed) (none_of text 1 lines none)
+none_by : (text : Option (List ℕ)) (lines : List (List ℕ)) → refusals text lines ≡ [] → are_allowed text lines ≡ true
+none_by None lines none = refl
+none_by (Some text) lines none = none_of text 1 lines none
 
-refused : (text : List ℕ) (lines : List (List ℕ)) → (refusal_lines text 1 lines ≡ [] → ⊥) → judgement_of_lines (Some text) lines ≡ NotAllowed
-refused text lines some = go (are_allowed_lines text lines) refl
-  where
-    go : (b : Bool) → are_allowed_lines text lines ≡ b → judgement_of_lines (Some text) lines ≡ NotAllowed
-    go true is = absurd (some (all_of text 1 lines is))
-    go false is = ap (λ (b : Bool). if b then Allowed else NotAllowed) is
+all_by : (text : Option (List ℕ)) (lines : List (List ℕ)) → are_allowed text lines ≡ true → refusals text lines ≡ []
+all_by None lines so = refl
+all_by (Some text) lines so = all_of text 1 lines so
 
 none_of_length : (xs : List ℕ) → (length xs == 0) ≡ true → xs ≡ []
 none_of_length [] is = refl
 none_of_length (x ∷ xs) is = let bad = eqb-true (length (x ∷ xs)) 0 is in absurd (omega (arith, bad))
 
--- what is to be told by the text that was read, and how long it is
-module _ (allow : Option (List ℕ)) (text read told : List ℕ) (lines : List (List ℕ)) (count : ℕ) (named : allow ≡ Some text) (same : read ≡ text) (is : told ≡ refusal_lines read 1 lines) (counted : count ≡ length told) where
-  by_text : judgement_of_lines allow lines ≡ judgement_of_lines (Some text) lines
-  by_text = ap (λ (o : Option (List ℕ)). judgement_of_lines o lines) named
+none_in_both : (xs ys : List ℕ) → xs ++ ys ≡ [] → (xs ≡ []) × (ys ≡ [])
+none_in_both [] ys none = (refl, none)
+none_in_both (x ∷ xs) ys none = absurd cc
 
-  told_is : told ≡ refusal_lines text 1 lines
-  told_is = is ∙ ap (λ (t : List ℕ). refusal_lines t 1 lines) same
+-- what is to be told, and how long it is
+module _ (text : Option (List ℕ)) (lines : List (List ℕ)) (fails told : List ℕ) (count : ℕ) (is : told ≡ refusals text lines ++ fails) (counted : count ≡ length told) where
+  pub allowed_by : (count == 0) ≡ true → Allowed ≡ judgement_of_lines text lines fails
+  allowed_by none =
+      let parts = none_in_both (refusals text lines) fails (sym is ∙ none_of_length told (ap (λ (n : ℕ). n == 0) (sym counted) ∙ none)) in
+      sym (ap (λ (b : Bool). if b && (length fails == 0) then Allowed else NotAllowed) (none_by text lines parts.0)
+      ∙ ap (λ (xs : List ℕ). if length xs == 0 then Allowed else NotAllowed) parts.1)
 
-  pub allowed_by : (count == 0) ≡ true → Allowed ≡ judgement_of_lines allow lines
-  allowed_by none = sym (by_text ∙ allowed text lines (sym told_is ∙ none_of_length told (ap (λ (n : ℕ). n == 0) (sym counted) ∙ none)))
-
-  pub refused_by : (count == 0) ≡ false → NotAllowed ≡ judgement_of_lines allow lines
-  refused_by some = sym (by_text ∙ refused text lines (λ none. false≢true (sym some ∙ ap (λ (n : ℕ). n == 0) (counted ∙ ap (λ (xs : List ℕ). length xs) (told_is ∙ none)))))
+  pub refused_by : (count == 0) ≡ false → NotAllowed ≡ judgement_of_lines text lines fails
+  refused_by some = sym (go (are_allowed text lines) (length fails == 0) refl refl)
+    where
+      go : (a b : Bool) → are_allowed text lines ≡ a → (length fails == 0) ≡ b → judgement_of_lines text lines fails ≡ NotAllowed
+      go true true x y =
+          let none : told ≡ [] = is ∙ (ap (λ (xs : List ℕ). xs ++ fails) (all_by text lines x) ∙ none_of_length fails y) in
+          absurd (false≢true (sym some ∙ ap (λ (n : ℕ). n == 0) (counted ∙ ap (λ (xs : List ℕ). length xs) none)))
+      go true false x y = ap (λ (b : Bool). if b && (length fails == 0) then Allowed else NotAllowed) x ∙ ap (λ (b : Bool). if b then Allowed else NotAllowed) y
+      go false b x y = ap (λ (b : Bool). if b && (length fails == 0) then Allowed else NotAllowed) x
 
 -- ---- lines, one after the other
 
@@ -81,11 +87,11 @@ one_told {X} line text number (x ∷ xs) first default lines new all is_allowed 
     ∙ (ap (λ (b : Bool). lines ++ ((if b then [] else refusal_line number) ++ more)) (sym here) ∙ so)))
 
 -- what one file's bytes make to be told, all files do
-pub refusals_in : (held : Contents) (allow : Option Name) (text : Option (List ℕ)) (lines : List (List ℕ)) (P : List ℕ → Type 0) → IsAllowFile held allow text → P (refusals text lines) → HaveRefusals held allow lines P
-refusals_in held None None lines P read so = so
-refusals_in held None (Some text) lines P read so = absurd read
-refusals_in held (Some file) None lines P read so = absurd read
-refusals_in held (Some file) (Some text) lines P read so = (text, read, so)
+pub refusals_in : (held : Contents) (allow : Option Name) (text : Option (List ℕ)) (lines : List (List ℕ)) (fails : List ℕ) (P : List ℕ → Type 0) → IsAllowFile held allow text → P (refusals text lines ++ fails) → HaveRefusals held allow lines fails P
+refusals_in held None None lines fails P read so = so
+refusals_in held None (Some text) lines fails P read so = absurd read
+refusals_in held (Some file) None lines fails P read so = absurd read
+refusals_in held (Some file) (Some text) lines fails P read so = (text, read, so)
 
 -- whatever the output answered, a beginning went out
 pub begun : {T E : Type 0} (before after : Option (List ℕ)) (text : List ℕ) (r : Result T E) → Writes before after text r → Begins before after text

@@ -1,8 +1,8 @@
 -- What is known of a search, and what it leaves.
-use Rattle.std.proofs.Common.{◌≡◌, ◌≢◌, ℕ, IfSome, List, Option, map, subst}
+use Rattle.std.proofs.Common.{◌≡◌, ◌≢◌, ◌++◌, ℕ, IfSome, List, Option, map, subst}
 use Rattle.std.specs.Io.KnownBytes.{Appends}
 use Rattle.explore_command.specs.ModelKeeping.{AreWaysKept, IsWayFile}
-use Rattle.explore_command.specs.Searching.{IsFoundUnder, IsOfFile, IsSearchNoted, IsSearched, SearchHas}
+use Rattle.explore_command.specs.Searching.{IsFoundUnder, IsOfFile, IsSearchNoted, IsSearched, SearchHas, search_fails}
 use Rattle.explore_command.specs.Telling.{AreRemarked}
 use Rattle.architecture_outcomes.specs.declared.architecture.Architecture.{Architecture}
 use Rattle.architecture_outcomes.specs.Outcomes.{end_of}
@@ -52,7 +52,7 @@ module _ (held : Contents) (wanted : Explore) (words : List Name) (window : ℕ)
 
   pub whole : (old new : Option (List ℕ)) (left : Contents) (judgement : Judgement) (text : Option (List ℕ)) → Appends old new (architecture_text names found) → HasName wanted.scripts → IfSome wanted.scripts (λ folder. AreWaysKept left config wanted.machine.memory folder.now 1 found.outcomes.items)
       → SparesOthers (IsInNamed wanted.scripts (IsWayFile 1 found.outcomes.items)) held left
-      → IsAllowFile held wanted.allow text → judgement ≡ judgement_of_lines text (map (λ o. end_text names (end_of o)) found.outcomes.items)
+      → IsAllowFile held wanted.allow text → judgement ≡ judgement_of_lines text (map (λ o. end_text names (end_of o)) found.outcomes.items) (search_fails wanted.fail_on found)
       → (judgement ≡ Allowed → (found.machine ≢ extent.OutOfMemory) × (found.reach ≢ reach.OutOfMemory)) → IsSearched held left wanted words window judgement old new
   unfolding of_file
   whole old new left judgement text printed folder kept spares read by memory = record {
@@ -62,19 +62,19 @@ module _ (held : Contents) (wanted : Explore) (words : List Name) (window : ℕ)
     named = folder;
     kept = subst (λ (c : Config). IfSome wanted.scripts (λ folder. AreWaysKept left c wanted.machine.memory folder.now 1 found.outcomes.items)) config_is kept;
     spared = spares;
-    judged = judged_of end_of held wanted.allow text names (names_of words) found.outcomes.items judgement named read by;
+    judged = judged_of end_of held wanted.allow text names (names_of words) found.outcomes.items (search_fails wanted.fail_on found) judgement named read by;
     whole = memory;
   }
 
   pub noted : (old new before between after : Option (List ℕ)) (judgement : Judgement) (text : Option (List ℕ)) → Appends old new (architecture_text names found) → AreRemarked wanted.scripts found.outcomes.items before between
-      → IsAllowFile held wanted.allow text → IsToldBy judgement between after (refusals text (map (λ o. end_text names (end_of o)) found.outcomes.items)) → IsSearchNoted held wanted words window judgement old new before after
+      → IsAllowFile held wanted.allow text → IsToldBy judgement between after (refusals text (map (λ o. end_text names (end_of o)) found.outcomes.items) ++ search_fails wanted.fail_on found) → IsSearchNoted held wanted words window judgement old new before after
   noted old new before between after judgement text printed remarked read told = record {
     architecture = found;
     of_file = of_file;
     printed = subst (λ (n : List WordName). Appends old new (architecture_text n found)) named printed;
     between = between;
     remarked = remarked;
-    refusals = told_of end_of held wanted.allow text names (names_of words) found.outcomes.items (IsToldBy judgement between after) named read told;
+    refusals = told_of end_of held wanted.allow text names (names_of words) found.outcomes.items (search_fails wanted.fail_on found) (IsToldBy judgement between after) named read told;
   }
 
 -- what is said of it, fact by fact

@@ -26,7 +26,7 @@ use Rattle.flat_exploration.specs.Drained.{Ending}
 use Rattle.machine_types.specs.declared.config.Config.{Config}
 use Rattle.explore_command.specs.Asking.{HasProgram, HasUnshown}
 use Rattle.explore_command.specs.WordKeeping.{AreWordsKept, bare_of}
-use Rattle.explore_command.specs.Showing.{AreWordsShown, IsFirstOf, IsFoundIn, IsOfFile, IsShowFault, WordRefusals, WordsHave}
+use Rattle.explore_command.specs.Showing.{AreWordsShown, IsFirstOf, IsFoundIn, IsOfFile, IsShowFault, WordRefusals, WordsHave, words_fail}
 use Rattle.explore_command.specs.Targets.{IsTarget, IsUnplaced, IsUnshown, name_of, names_of, place_of}
 use Rattle.state_search.specs.declared.findings.Extent.TheVariants as extent
 use Rattle.explorer.specs.declared.words.exploration.WordExploration.{WordExploration}
@@ -46,16 +46,16 @@ use Rattle.flat_model.specs.Flat.{Flat}
 -- ---- what is allowed
 
 -- the judgement on the lines of ends, by the names that the words have
-pub judged_of : {X : Type 0} (ending : X → Ending) (held : Contents) (allow : Option Name) (text : Option (List ℕ)) (names told : List WordName) (xs : List X) (judgement : Judgement) → names ≡ told → IsAllowFile held allow text
-    → judgement ≡ judgement_of_lines text (map (λ x. end_text names (ending x)) xs) → IsJudged held allow (map (λ x. end_text told (ending x)) xs) judgement
-judged_of ending held allow text names told xs judgement same read is =
-    judged held allow text (map (λ x. end_text told (ending x)) xs) judgement read (is ∙ ap (λ (n : List WordName). judgement_of_lines text (map (λ x. end_text n (ending x)) xs)) same)
+pub judged_of : {X : Type 0} (ending : X → Ending) (held : Contents) (allow : Option Name) (text : Option (List ℕ)) (names told : List WordName) (xs : List X) (fails : List ℕ) (judgement : Judgement) → names ≡ told → IsAllowFile held allow text
+    → judgement ≡ judgement_of_lines text (map (λ x. end_text names (ending x)) xs) fails → IsJudged held allow (map (λ x. end_text told (ending x)) xs) fails judgement
+judged_of ending held allow text names told xs fails judgement same read is =
+    judged held allow text (map (λ x. end_text told (ending x)) xs) fails judgement read (is ∙ ap (λ (n : List WordName). judgement_of_lines text (map (λ x. end_text n (ending x)) xs) fails) same)
 
 -- what is to be told of the lines of ends
-pub told_of : {X : Type 0} (ending : X → Ending) (held : Contents) (allow : Option Name) (text : Option (List ℕ)) (names told : List WordName) (xs : List X) (P : List ℕ → Type 0) → names ≡ told → IsAllowFile held allow text
-    → P (refusals text (map (λ x. end_text names (ending x)) xs)) → HaveRefusals held allow (map (λ x. end_text told (ending x)) xs) P
-told_of ending held allow text names told xs P same read so =
-    refusals_in held allow text (map (λ x. end_text told (ending x)) xs) P read (subst (λ (n : List WordName). P (refusals text (map (λ x. end_text n (ending x)) xs))) same so)
+pub told_of : {X : Type 0} (ending : X → Ending) (held : Contents) (allow : Option Name) (text : Option (List ℕ)) (names told : List WordName) (xs : List X) (fails : List ℕ) (P : List ℕ → Type 0) → names ≡ told → IsAllowFile held allow text
+    → P (refusals text (map (λ x. end_text names (ending x)) xs) ++ fails) → HaveRefusals held allow (map (λ x. end_text told (ending x)) xs) fails P
+told_of ending held allow text names told xs fails P same read so =
+    refusals_in held allow text (map (λ x. end_text told (ending x)) xs) fails P read (subst (λ (n : List WordName). P (refusals text (map (λ x. end_text n (ending x)) xs) ++ fails)) same so)
 
 -- ---- what was found
 
@@ -79,18 +79,18 @@ module _ (held : Contents) (show : Show) (config : Config) (image : Initial) (ad
 
   -- and so with what is to be told of its outcomes
   pub refused : (old new : Option (List ℕ)) (P : List ℕ → Type 0) (text : Option (List ℕ)) → Appends old new (words_text names found) → IsAllowFile held show.explore.allow text
-      → P (refusals text (map (λ f. end_text names (ending_of f)) found.outcomes.items)) → WordRefusals held show old new P
+      → P (refusals text (map (λ f. end_text names (ending_of f)) found.outcomes.items) ++ words_fail show.explore.fail_on found) → WordRefusals held show old new P
   refused old new P text printed read so = record {
     exploration = found;
     of_file = of_file;
     printed = subst (λ (n : List WordName). Appends old new (words_text n found)) names_are printed;
-    refusals = told_of ending_of held show.explore.allow text names (names_of show.words.items) found.outcomes.items P names_are read so;
+    refusals = told_of ending_of held show.explore.allow text names (names_of show.words.items) found.outcomes.items (words_fail show.explore.fail_on found) P names_are read so;
   }
 
   -- all of it was done
   pub shown : (old new : Option (List ℕ)) (left : Contents) (judgement : Judgement) (text : Option (List ℕ)) → Appends old new (words_text names found) → HasName show.explore.scripts → IfSome show.explore.scripts (λ folder. AreWordsKept left config show.explore.machine.memory folder.now found)
       → SparesOthers (IsInNamed show.explore.scripts (IsScriptOf (length found.outcomes.items) found.stuck)) held left → IsAllowFile held show.explore.allow text
-      → judgement ≡ judgement_of_lines text (map (λ f. end_text names (ending_of f)) found.outcomes.items) → (judgement ≡ Allowed → found.extent ≢ extent.OutOfMemory) → AreWordsShown held left show judgement old new
+      → judgement ≡ judgement_of_lines text (map (λ f. end_text names (ending_of f)) found.outcomes.items) (words_fail show.explore.fail_on found) → (judgement ≡ Allowed → found.extent ≢ extent.OutOfMemory) → AreWordsShown held left show judgement old new
   unfolding of_file
   shown old new left judgement text printed folder kept spares read by whole = record {
     exploration = found;
@@ -99,7 +99,7 @@ module _ (held : Contents) (show : Show) (config : Config) (image : Initial) (ad
     named = folder;
     kept = subst (λ (c : Config). IfSome show.explore.scripts (λ folder. AreWordsKept left c show.explore.machine.memory folder.now found)) config_is kept;
     spared = spares;
-    judged = judged_of ending_of held show.explore.allow text names (names_of show.words.items) found.outcomes.items judgement names_are read by;
+    judged = judged_of ending_of held show.explore.allow text names (names_of show.words.items) found.outcomes.items (words_fail show.explore.fail_on found) judgement names_are read by;
     whole = whole;
   }
 

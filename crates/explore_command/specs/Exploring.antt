@@ -1,5 +1,5 @@
 -- What an exploration has told, written and judged, and which faults it tells.
-use Rattle.std.specs.Prelude.{◌≡◌, ◌≢◌, ◌⊎◌, ◌≤◌, ℕ, [], All, IfSome, List, length, map, None, Option, Some}
+use Rattle.std.specs.Prelude.{◌≡◌, ◌≢◌, ◌⊎◌, ◌≤◌, ℕ, [], All, IfSome, List, is_some, length, map, None, not, Option, Some}
 use Rattle.std.specs.Io.KnownBytes.{Appends}
 use Rattle.std.specs.List.Sorted.{IsStrictlySortedBy}
 use Rattle.std.specs.Ordering.{on}
@@ -12,7 +12,7 @@ use Rattle.command_files.specs.declared.fault.Fault.TheVariants.{CannotMake, Can
 use Rattle.command_settings.specs.declared.wanted.Explore.{Explore}
 use Rattle.elf_loader.specs.Image.{Initial}
 use Rattle.exploration_text.specs.Text.{exploration_text, harts_text}
-use Rattle.explore_command.specs.Judging.{HaveRefusals, IsJudged}
+use Rattle.explore_command.specs.Judging.{HaveRefusals, IsJudged, fail_lines, have_failure, is_complete}
 use Rattle.explore_command.specs.Keeping.{AreKept, HasName, IsInNamed, IsScriptOf, SparesOthers}
 use Rattle.explore_command.specs.declared.judging.Judgement.{Judgement}
 use Rattle.explore_command.specs.declared.judging.Judgement.TheVariants.{Allowed}
@@ -27,6 +27,10 @@ use Rattle.machine_types.specs.declared.config.Config.{Config}
 use Rattle.state_search.specs.declared.findings.Extent.TheVariants.{Complete, LimitMet}
 use Rattle.state_search.specs.declared.findings.Extent.TheVariants as extent
 use Rattle.text_fields.specs.Writing.{Begins}
+
+-- what else it came to that it may not
+abbrev pub exploration_fails : Option Name → Exploration → List ℕ
+exploration_fails list found = fail_lines list (have_failure (outcomes_of found.outcomes.items)) (is_some found.stuck) (not (is_complete found.extent))
 
 -- ---- what is found
 
@@ -54,7 +58,7 @@ pub record IsExplorationTold (held left : Contents) (wanted : Explore) (judgemen
   pub named : HasName wanted.scripts
   pub kept : IfSome wanted.scripts (λ folder. AreKept left (config_named wanted.machine inside) wanted.machine.memory folder.now exploration)
   pub spared : SparesOthers (IsInNamed wanted.scripts (IsScriptOf (length exploration.outcomes.items) exploration.stuck)) held left
-  pub judged : IsJudged held wanted.allow (map (λ f. harts_text 0 (outcome_of f)) exploration.outcomes.items) judgement
+  pub judged : IsJudged held wanted.allow (map (λ f. harts_text 0 (outcome_of f)) exploration.outcomes.items) (exploration_fails wanted.fail_on exploration) judgement
   pub whole : judgement ≡ Allowed → exploration.extent ≢ extent.OutOfMemory
 
 -- P holds of the text of what was found of the image in the file
@@ -74,7 +78,7 @@ pub record ExplorationRefusals (held : Contents) (wanted : Explore) (old new : O
   pub inside : IsInside wanted.machine
   pub found : IsFoundIn image (config_named wanted.machine inside) wanted.states exploration
   pub printed : Appends old new (exploration_text exploration)
-  pub refusals : HaveRefusals held wanted.allow (map (λ f. harts_text 0 (outcome_of f)) exploration.outcomes.items) P
+  pub refusals : HaveRefusals held wanted.allow (map (λ f. harts_text 0 (outcome_of f)) exploration.outcomes.items) (exploration_fails wanted.fail_on exploration) P
 
 -- ---- what is allowed
 

@@ -10,3 +10,4 @@ pub mod Targets
 pub mod ModelKeeping
 pub mod Searching
 pub mod Telling
+pub mod Passing

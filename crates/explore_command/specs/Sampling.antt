@@ -1,21 +1,26 @@
 -- What random runs have told, written and judged.
-use Rattle.std.specs.Prelude.{◌≡◌, ℕ, ◌≤◌, IfSome, List, Option, false, length, map}
+use Rattle.std.specs.Prelude.{◌≡◌, ℕ, ◌≤◌, IfSome, List, Option, false, length, map, true}
 use Rattle.std.specs.Io.KnownBytes.{Appends}
 use Rattle.command_files.specs.Files.{HoldsImage}
 use Rattle.command_files.specs.Contents.{Contents}
+use Rattle.command_files.specs.Faults.{Name}
 use Rattle.command_files.specs.Sizes.{IsInside, config_named}
 use Rattle.command_settings.specs.declared.wanted.Explore.{Explore}
 use Rattle.elf_loader.specs.Image.{Initial}
 use Rattle.exploration_text.specs.Sampling.{sampled_text}
 use Rattle.exploration_text.specs.Text.{harts_text}
-use Rattle.explore_command.specs.Judging.{HaveRefusals, IsJudged}
+use Rattle.explore_command.specs.Judging.{HaveRefusals, IsJudged, fail_lines, have_failure}
 use Rattle.explore_command.specs.Keeping.{AreKeptFrom, HasName, IsInNamed, IsOutcomeScript, SparesOthers}
 use Rattle.explore_command.specs.declared.judging.Judgement.{Judgement}
 use Rattle.explore_command.specs.declared.judging.Judgement.TheVariants.{Allowed}
-use Rattle.explorer.specs.Ends.{outcome_of}
+use Rattle.explorer.specs.Ends.{outcome_of, outcomes_of}
 use Rattle.machine_types.specs.declared.config.Config.{Config}
 use Rattle.explorer.specs.Sampled as ends
 use Rattle.explorer.specs.declared.samples.sampled.Sampled.{Sampled}
+
+-- what else they came to that they may not: runs never show that there is no other end
+abbrev pub runs_fail : Option Name → Sampled → List ℕ
+runs_fail list found = fail_lines list (have_failure (outcomes_of found.ends.items)) false true
 
 -- so many runs were made, or fewer where memory ended, each end is one, its script leads there, and so many came to it
 pub record AreRuns (image : Initial) (config : Config) (runs : ℕ) (found : Sampled) : Type 0 where
@@ -34,7 +39,7 @@ pub record IsSampleTold (held left : Contents) (wanted : Explore) (runs : ℕ) (
   pub named : HasName wanted.scripts
   pub kept : IfSome wanted.scripts (λ folder. AreKeptFrom left (config_named wanted.machine inside) wanted.machine.memory folder.now 1 found.ends.items)
   pub spared : SparesOthers (IsInNamed wanted.scripts (IsOutcomeScript (length found.ends.items))) held left
-  pub judged : IsJudged held wanted.allow (map (λ f. harts_text 0 (outcome_of f)) found.ends.items) judgement
+  pub judged : IsJudged held wanted.allow (map (λ f. harts_text 0 (outcome_of f)) found.ends.items) (runs_fail wanted.fail_on found) judgement
   pub whole : judgement ≡ Allowed → found.runs ≡ runs
 
 -- P holds of the text of what runs of the image in the file came to
@@ -54,4 +59,4 @@ pub record SampleRefusals (held : Contents) (wanted : Explore) (runs : ℕ) (old
   pub inside : IsInside wanted.machine
   pub runs_made : AreRuns image (config_named wanted.machine inside) runs found
   pub printed : Appends old new (sampled_text found)
-  pub refusals : HaveRefusals held wanted.allow (map (λ f. harts_text 0 (outcome_of f)) found.ends.items) P
+  pub refusals : HaveRefusals held wanted.allow (map (λ f. harts_text 0 (outcome_of f)) found.ends.items) (runs_fail wanted.fail_on found) P

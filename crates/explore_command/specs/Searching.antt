@@ -1,5 +1,5 @@
 -- What a search under a memory model has told, written and judged.
-use Rattle.std.specs.Prelude.{◌≡◌, ◌≢◌, ◌≤◌, ◌⊎◌, ℕ, All, IfSome, List, Option, map, min}
+use Rattle.std.specs.Prelude.{◌≡◌, ◌≢◌, ◌≤◌, ◌⊎◌, ℕ, All, Bool, IfSome, List, Option, false, map, min, not}
 use Rattle.std.specs.Io.KnownBytes.{Appends}
 use Rattle.std.specs.List.Sorted.{IsStrictlySortedBy}
 use Rattle.std.specs.Ordering.{on}
@@ -17,7 +17,7 @@ use Rattle.command_settings.specs.declared.wanted.Explore.{Explore}
 use Rattle.elf_loader.specs.Image.{Initial}
 use Rattle.exploration_text.specs.Words.{end_text}
 use Rattle.explore_command.specs.Exploring.{IsExploreFault}
-use Rattle.explore_command.specs.Judging.{HaveRefusals, IsJudged, IsToldBy}
+use Rattle.explore_command.specs.Judging.{HaveRefusals, IsJudged, IsToldBy, fail_lines, have_failure, is_complete}
 use Rattle.explore_command.specs.Keeping.{HasName, IsInNamed, SparesOthers}
 use Rattle.explore_command.specs.declared.judging.Judgement.{Judgement}
 use Rattle.explore_command.specs.declared.judging.Judgement.TheVariants.{Allowed}
@@ -25,9 +25,11 @@ use Rattle.flat_model.specs.Flat.{Flat}
 use Rattle.machine_types.specs.declared.config.Config.{Config}
 use Rattle.explore_command.specs.Asking.{HasProgram, HasUnshown}
 use Rattle.explore_command.specs.Targets.{names_of}
+use Rattle.state_search.specs.declared.findings.Extent.{Extent}
 use Rattle.state_search.specs.declared.findings.Extent.TheVariants.{Complete, LimitMet}
 use Rattle.state_search.specs.declared.findings.Extent.TheVariants as extent
 use Rattle.window_search.specs.Openings.{NeverOpens}
+use Rattle.window_search.specs.declared.left_out.Reach.{Reach}
 use Rattle.window_search.specs.declared.left_out.Reach.TheVariants as reach
 use Rattle.explorer.specs.WordOrders.{ending_cmp}
 
@@ -47,6 +49,15 @@ pub record IsFoundUnder (image : Initial) (config : Config) (addresses : List �
   pub visited : (states : List Flat) × AreMachineStates image config addresses found.machine found.machine_states (TellsEnd found.outcomes.items) states
   pub window_is : found.window ≡ min window 64
 
+-- neither search met a bound
+abbrev pub is_whole : Reach → Extent → Bool
+is_whole reach.Whole e = is_complete e
+is_whole _ e = false
+
+-- what else it came to that it may not; it doesn't look for states from which no schedule ends
+abbrev pub search_fails : Option Name → Architecture → List ℕ
+search_fails list found = fail_lines list (have_failure (map (λ o. (end_of o).results) found.outcomes.items)) false (not (is_whole found.reach found.machine))
+
 -- it was found of the image in the file, with the words where its symbols say
 pub record IsOfFile (held : Contents) (wanted : Explore) (words : List Name) (window : ℕ) (architecture : Architecture) : Type 0 where
   pub image : Initial
@@ -63,7 +74,7 @@ pub record IsSearched (held left : Contents) (wanted : Explore) (words : List Na
   pub named : HasName wanted.scripts
   pub kept : IfSome wanted.scripts (λ folder. AreWaysKept left (config_named wanted.machine of_file.inside) wanted.machine.memory folder.now 1 architecture.outcomes.items)
   pub spared : SparesOthers (IsInNamed wanted.scripts (IsWayFile 1 architecture.outcomes.items)) held left
-  pub judged : IsJudged held wanted.allow (map (λ o. end_text (names_of words) (end_of o)) architecture.outcomes.items) judgement
+  pub judged : IsJudged held wanted.allow (map (λ o. end_text (names_of words) (end_of o)) architecture.outcomes.items) (search_fails wanted.fail_on architecture) judgement
   pub whole : judgement ≡ Allowed → (architecture.machine ≢ extent.OutOfMemory) × (architecture.reach ≢ reach.OutOfMemory)
 
 -- P holds of the text of what was found
@@ -79,7 +90,7 @@ pub record IsSearchNoted (held : Contents) (wanted : Explore) (words : List Name
   pub printed : Appends old new (architecture_text (names_of words) architecture)
   pub between : Option (List ℕ)
   pub remarked : AreRemarked wanted.scripts architecture.outcomes.items before between
-  pub refusals : HaveRefusals held wanted.allow (map (λ o. end_text (names_of words) (end_of o)) architecture.outcomes.items) (IsToldBy judgement between after)
+  pub refusals : HaveRefusals held wanted.allow (map (λ o. end_text (names_of words) (end_of o)) architecture.outcomes.items) (search_fails wanted.fail_on architecture) (IsToldBy judgement between after)
 
 -- as an exploration has them; or one of the words can't be shown
 abbrev pub IsSearchFault : Contents → Explore → List Name → Fault → Type 0

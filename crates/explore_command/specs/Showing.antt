@@ -1,5 +1,5 @@
 -- What an exploration that shows words of memory has told, written and judged, and which faults it tells.
-use Rattle.std.specs.Prelude.{◌≡◌, ◌≢◌, ◌<◌, ◌≤◌, ◌⊎◌, ℕ, [], ◌∷◌, All, IfSome, List, None, Option, length, map}
+use Rattle.std.specs.Prelude.{◌≡◌, ◌≢◌, ◌<◌, ◌≤◌, ◌⊎◌, ℕ, [], ◌∷◌, All, IfSome, List, None, Option, is_some, length, map, not}
 use Rattle.std.specs.Io.KnownBytes.{Appends}
 use Rattle.std.specs.List.Sorted.{IsStrictlySortedBy}
 use Rattle.std.specs.Ordering.{on}
@@ -14,7 +14,7 @@ use Rattle.command_settings.specs.declared.wanted.Show.{Show}
 use Rattle.elf_loader.specs.Image.{Initial}
 use Rattle.exploration_text.specs.Words.{end_text, words_text}
 use Rattle.explore_command.specs.Exploring.{IsExploreFault}
-use Rattle.explore_command.specs.Judging.{HaveRefusals, IsJudged}
+use Rattle.explore_command.specs.Judging.{HaveRefusals, IsJudged, fail_lines, have_failure, is_complete}
 use Rattle.explore_command.specs.Keeping.{HasName, IsInNamed, IsScriptOf, SparesOthers}
 use Rattle.explore_command.specs.declared.judging.Judgement.{Judgement}
 use Rattle.explore_command.specs.declared.judging.Judgement.TheVariants.{Allowed}
@@ -30,6 +30,10 @@ use Rattle.explorer.specs.WordEnds.{CanAlwaysDrain, HasEachEnding, IsRealIn, end
 use Rattle.explorer.specs.WordOrders.{ending_cmp}
 use Rattle.explorer.specs.WordStuck.{IsStuckIn}
 use Rattle.explorer.specs.WordVisited.{AreVisited}
+
+-- what else it came to that it may not
+abbrev pub words_fail : Option Name → WordExploration → List ℕ
+words_fail list found = fail_lines list (have_failure (map (λ f. (ending_of f).results) found.outcomes.items)) (is_some found.stuck) (not (is_complete found.extent))
 
 -- ---- what is found
 
@@ -62,7 +66,7 @@ pub record AreWordsShown (held left : Contents) (show : Show) (judgement : Judge
   pub named : HasName show.explore.scripts
   pub kept : IfSome show.explore.scripts (λ folder. AreWordsKept left (config_named show.explore.machine of_file.inside) show.explore.machine.memory folder.now exploration)
   pub spared : SparesOthers (IsInNamed show.explore.scripts (IsScriptOf (length exploration.outcomes.items) exploration.stuck)) held left
-  pub judged : IsJudged held show.explore.allow (map (λ f. end_text (names_of show.words.items) (ending_of f)) exploration.outcomes.items) judgement
+  pub judged : IsJudged held show.explore.allow (map (λ f. end_text (names_of show.words.items) (ending_of f)) exploration.outcomes.items) (words_fail show.explore.fail_on exploration) judgement
   pub whole : judgement ≡ Allowed → exploration.extent ≢ extent.OutOfMemory
 
 -- P holds of the text of what was found
@@ -76,7 +80,7 @@ pub record WordRefusals (held : Contents) (show : Show) (old new : Option (List 
   pub exploration : WordExploration
   pub of_file : IsOfFile held show exploration
   pub printed : Appends old new (words_text (names_of show.words.items) exploration)
-  pub refusals : HaveRefusals held show.explore.allow (map (λ f. end_text (names_of show.words.items) (ending_of f)) exploration.outcomes.items) P
+  pub refusals : HaveRefusals held show.explore.allow (map (λ f. end_text (names_of show.words.items) (ending_of f)) exploration.outcomes.items) (words_fail show.explore.fail_on exploration) P
 
 -- ---- faults
 

@@ -1,6 +1,7 @@
 //! An exploration, as it is told, judged and kept.
 
-ghost use Rattle.std.specs.Prelude.{◌≢◌, length};
+ghost use Rattle.std.specs.Prelude.{◌≢◌, is_some, length, not};
+ghost use Rattle.explore_command.specs.Judging.{is_complete};
 ghost use Rattle.explore_command.specs.Keeping.{AreKept, IsScriptOf};
 ghost use Rattle.exploration_text.specs.Text.{exploration_text, harts_text};
 ghost use Rattle.explorer.specs.Ends.{outcome_of};
@@ -11,6 +12,7 @@ use crate::keeping::{Folder, Keepable};
 use command_files::{Fault, Files};
 use exploration_text::{harts_text, text_of};
 use explorer::{Exploration, Found};
+use flat_model::HartResult;
 use state_search::Extent;
 use std::alloc::{AllocError, Global};
 
@@ -22,6 +24,12 @@ impl Findings for Exploration {
     ghost outcomes = { λ e. e.outcomes.items };
 
     ghost line = { λ e f. harts_text 0 (outcome_of f) };
+
+    ghost harts = { outcome_of };
+
+    ghost is_stuck = { λ e. is_some e.stuck };
+
+    ghost is_incomplete = { λ e. not (is_complete e.extent) };
 
     ghost IsWhole = { λ e. e.extent ≢ extent.OutOfMemory };
 
@@ -35,6 +43,18 @@ impl Findings for Exploration {
 
     fn line(&self, alloc: Global, outcome: &Found) -> Result<Vec<u8>, AllocError> {
         harts_text(alloc, &outcome.harts)
+    }
+
+    fn harts(outcome: &Found) -> &[HartResult] {
+        &outcome.harts
+    }
+
+    fn is_stuck(&self) -> bool {
+        self.stuck.is_some()
+    }
+
+    fn is_incomplete(&self) -> bool {
+        self.extent != Extent::Complete
     }
 
     fn is_whole(&self) -> bool {

@@ -62,7 +62,7 @@ pub fn explore_files<'a, F: Files, O: Write, E: Write, P: Progress>(
         return Err(Fault::OutOfMemory);
     };
     print(alloc, &found, out)?;
-    let judgement = judge(alloc, &asked.allowed, &found, err);
+    let judgement = judge(alloc, wanted, &asked.allowed, &found, err);
     keep(alloc, files, wanted, asked.config, &found)?;
     judgement
 }

@@ -1,10 +1,12 @@
 //! What a search for a program's outcomes finds, as the command that made it tells and judges it.
 
-ghost use Rattle.std.specs.Prelude.{◌≡◌, ◌⊎◌, IfErr, IfOk, IsTrue, List, OnErr, OnOk, ℕ};
+ghost use Rattle.std.specs.Prelude.{◌≡◌, ◌⊎◌, Bool, IfErr, IfOk, IsTrue, List, OnErr, OnOk, ℕ};
 ghost use Rattle.std.specs.Io.KnownBytes.{Appends};
+ghost use Rattle.flat_model.specs.Shown.{HartEnd, told};
 ghost use Rattle.text_fields.specs.Writing.{Begins};
 
 use command_files::Fault;
+use flat_model::HartResult;
 use std::alloc::{AllocError, Global};
 use std::io::Write;
 use text_fields::{Piece, put_pieces};
@@ -22,6 +24,15 @@ pub(crate) trait Findings {
     // What an outcome's line says, its number left out.
     ghost line: { Self → Self.Outcome → List ℕ };
 
+    // How its harts ended.
+    ghost harts: { Self.Outcome → List HartEnd };
+
+    // A state was found from which no schedule ends.
+    ghost is_stuck: { Self → Bool };
+
+    // The search ended before all was searched.
+    ghost is_incomplete: { Self → Bool };
+
     // Memory sufficed for the whole search.
     ghost IsWhole: { Self → Type 0 };
 
@@ -36,6 +47,18 @@ pub(crate) trait Findings {
     /// What an outcome's line says, its number left out.
     fn line(&self, alloc: Global, outcome: &Self::Outcome) -> Result<Vec<u8>, AllocError>
         ensures { IfOk result (λ bytes. bytes.items ≡ line self.now outcome.now) };
+
+    /// How its harts ended, by hart.
+    fn harts(outcome: &Self::Outcome) -> &[HartResult]
+        ensures { told result.now ≡ harts outcome.now };
+
+    /// Whether a state was found from which no schedule ends.
+    fn is_stuck(&self) -> bool
+        ensures { result ≡ is_stuck self.now };
+
+    /// Whether the search ended before all was searched.
+    fn is_incomplete(&self) -> bool
+        ensures { result ≡ is_incomplete self.now };
 
     /// Whether memory sufficed for the whole search.
     fn is_whole(&self) -> bool

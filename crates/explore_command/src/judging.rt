@@ -1,51 +1,86 @@
-//! Whether the outcomes that were found are those that a file allows.
+//! Whether the outcomes that were found are those that a file allows, and nothing else was that may not be.
 
 ghost use Rattle.std.specs.Prelude.{◌≡◌, ◌++◌, IfErr, IfOk, OnErr, OnOk, map, option_map};
-ghost use Rattle.explore_command.specs.Judging.{IsToldBy, judgement_of_lines, refusal_line, refusal_lines, refusals};
+ghost use Rattle.explore_command.specs.Judging.{IsToldBy, fail_lines, have_failure, judgement_of_lines, refusal_line, refusal_lines, refusals};
 
 use crate::allowing::{Allowed, without_number};
+use crate::failing::fails_of;
 use crate::findings::Findings;
 use command_files::Fault;
+use command_settings::Explore;
 use std::alloc::{AllocError, Global};
 use std::io::Write;
 use text_fields::put;
 
-/// Whether each outcome is one that is allowed.
+/// Whether each outcome is one that is allowed, and the search came to nothing else that it may not come to.
 #[derive(Clone, Copy, Debug, PartialEq, Eq)]
 pub enum Judgement {
-    /// Each is, or no file says which ones are.
+    /// Each is, or no file says which ones are; and it didn't.
     Allowed,
     NotAllowed,
 }
 
-/// Whether what was found is allowed by a text, if there is one. Where it is, but memory ended, there may be more: that
-/// is an error. Of outcomes that aren't the numbers are told.
+/// Whether what was found is allowed by a text, if there is one, and is nothing that the search may not come to. Where it
+/// is, but memory ended, there may be more: that is an error. Of outcomes that aren't the numbers are told, and then what
+/// else the search came to.
 pub(crate) fn judge<'a, T: Findings, E: Write>(
     alloc: Global,
+    wanted: Explore<'_>,
     allowed: &Option<Vec<u8>>,
     found: &T,
     err: &mut E,
 ) -> Result<Judgement, Fault<'a>>
-    ensures judged { IfOk result (λ judgement. judgement ≡ judgement_of_lines (option_map (λ bytes. bytes.items) allowed.now) (map (T.line found.now) (T.outcomes found.now))) }
+    ensures judged { IfOk result (λ judgement. judgement ≡ judgement_of_lines (option_map (λ bytes. bytes.items) allowed.now) (map (T.line found.now) (T.outcomes found.now))
+        (fail_lines wanted.entry.fail_on (have_failure (map T.harts (T.outcomes found.now))) (T.is_stuck found.now) (T.is_incomplete found.now))) }
     ensures whole { IfOk result (λ judgement. judgement ≡ Judgement.Allowed → T.IsWhole found.now) }
     ensures told { IfErr result (λ fault. fault ≡ Fault.OutOfMemory) }
-    ensures noted { IfOk result (λ judgement. IsToldBy judgement (E.contents err.old) (E.contents err.new) (refusals (option_map (λ bytes. bytes.items) allowed.now) (map (T.line found.now) (T.outcomes found.now)))) }
+    ensures noted { IfOk result (λ judgement. IsToldBy judgement (E.contents err.old) (E.contents err.new)
+        (refusals (option_map (λ bytes. bytes.items) allowed.now) (map (T.line found.now) (T.outcomes found.now))
+        ++ fail_lines wanted.entry.fail_on (have_failure (map T.harts (T.outcomes found.now))) (T.is_stuck found.now) (T.is_incomplete found.now))) }
     ensures silent { OnErr result (E.contents err.new ≡ E.contents err.old) }
 {
-    if let Some(text) = allowed {
-        let Ok(lines) = refusals_of(alloc, text, found) else {
-            return Err(Fault::OutOfMemory);
-        };
-        if !lines.is_empty() {
-            // Standard error has no other place to tell that it takes no more.
-            let _ = put(err, &lines);
-            return Ok(Judgement::NotAllowed);
-        }
+    let Ok(lines) = lines_of(alloc, wanted, allowed, found) else {
+        return Err(Fault::OutOfMemory);
+    };
+    if !lines.is_empty() {
+        // Standard error has no other place to tell that it takes no more.
+        let _ = put(err, &lines);
+        return Ok(Judgement::NotAllowed);
     }
     if found.is_whole() {
         Ok(Judgement::Allowed)
     } else {
         Err(Fault::OutOfMemory)
+    }
+}
+
+/// What there is to be told.
+fn lines_of<T: Findings>(
+    alloc: Global,
+    wanted: Explore<'_>,
+    allowed: &Option<Vec<u8>>,
+    found: &T,
+) -> Result<Vec<u8>, AllocError>
+    ensures { IfOk result (λ lines. lines.items ≡ refusals (option_map (λ bytes. bytes.items) allowed.now) (map (T.line found.now) (T.outcomes found.now))
+        ++ fail_lines wanted.entry.fail_on (have_failure (map T.harts (T.outcomes found.now))) (T.is_stuck found.now) (T.is_incomplete found.now)) }
+{
+    let mut lines = refusals_by(alloc, allowed, found)?;
+    let fails = fails_of(alloc, wanted, found)?;
+    lines.extend_from_slice(&fails)?;
+    Ok(lines)
+}
+
+/// A line with the number of each outcome for which the text has none, if there is a text.
+fn refusals_by<T: Findings>(
+    alloc: Global,
+    allowed: &Option<Vec<u8>>,
+    found: &T,
+) -> Result<Vec<u8>, AllocError>
+    ensures { IfOk result (λ lines. lines.items ≡ refusals (option_map (λ bytes. bytes.items) allowed.now) (map (T.line found.now) (T.outcomes found.now))) }
+{
+    match allowed {
+        Some(text) => refusals_of(alloc, text, found),
+        None => Ok(Vec::new(alloc)),
     }
 }
 

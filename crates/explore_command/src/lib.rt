@@ -6,14 +6,17 @@ mod architecture;
 mod asked;
 mod exploration;
 mod exploring;
+mod failing;
 mod findings;
 mod judging;
 mod keeping;
+mod laws;
 mod sample;
 mod show;
 
 pub use architecture::architecture_files;
 pub use exploring::explore_files;
 pub use judging::Judgement;
+pub use laws::passing_is_safe;
 pub use sample::sample_files;
 pub use show::show_files;

@@ -1,10 +1,12 @@
 //! What a memory model was found to allow, as it is told, judged and kept.
 
-ghost use Rattle.std.specs.Prelude.{◌≢◌, All};
+ghost use Rattle.std.specs.Prelude.{◌≡◌, ◌≢◌, All, false, not};
+ghost use Rattle.explore_command.specs.Searching.{is_whole};
 ghost use Rattle.explore_command.specs.ModelKeeping.{AreWaysKept, HasText, IsWayFile};
 ghost use Rattle.architecture_outcomes.specs.Outcomes.{end_of};
 ghost use Rattle.architecture_outcomes.specs.Text.{architecture_text};
 ghost use Rattle.exploration_text.specs.Words.{end_text};
+ghost use Rattle.flat_model.specs.Shown.{told};
 ghost use Rattle.state_search.specs.declared.findings.Extent.TheVariants as extent;
 ghost use Rattle.window_search.specs.declared.left_out.Reach.TheVariants as reach;
 
@@ -14,6 +16,7 @@ use crate::keeping::{Folder, Keepable};
 use architecture_outcomes::{Architecture, Outcome, text_of};
 use command_files::{Fault, Files};
 use exploration_text::{WordName, end_text};
+use flat_model::HartResult;
 use state_search::Extent;
 use std::alloc::{AllocError, Global};
 use window_search::Reach;
@@ -34,6 +37,12 @@ impl Findings for Searched<'_> {
 
     ghost line = { λ s o. end_text s.names.items (end_of o) };
 
+    ghost harts = { λ o. (end_of o).results };
+
+    ghost is_stuck = { λ s. false };
+
+    ghost is_incomplete = { λ s. not (is_whole s.architecture.reach s.architecture.machine) };
+
     ghost IsWhole = { λ s. (s.architecture.machine ≢ extent.OutOfMemory) × (s.architecture.reach ≢ reach.OutOfMemory) };
 
     fn text(&self, alloc: Global) -> Result<Vec<u8>, AllocError> {
@@ -46,6 +55,22 @@ impl Findings for Searched<'_> {
 
     fn line(&self, alloc: Global, outcome: &Outcome) -> Result<Vec<u8>, AllocError> {
         end_text(alloc, &self.names, &outcome.harts, &outcome.words)
+    }
+
+    fn harts(outcome: &Outcome) -> &[HartResult]
+        ensures { told result.now ≡ (end_of outcome.now).results }
+    {
+        &outcome.harts
+    }
+
+    // It doesn't look for states from which no schedule ends.
+    fn is_stuck(&self) -> bool {
+        false
+    }
+
+    fn is_incomplete(&self) -> bool {
+        let found = &self.architecture;
+        found.reach != Reach::Whole || found.machine != Extent::Complete
     }
 
     fn is_whole(&self) -> bool {

@@ -81,7 +81,7 @@ pub fn architecture_files<'a, F: Files, O: Write, E: Write, P: Progress>(
     let _entry = image.entry();
     print(alloc, &found, out)?;
     let remarked = tell(alloc, wanted, &found.architecture.outcomes, err);
-    let judgement = judge(alloc, &allowed, &found, err);
+    let judgement = judge(alloc, wanted, &allowed, &found, err);
     keep(alloc, files, wanted, config, &found)?;
     remarked?;
     judgement

@@ -1,6 +1,6 @@
 //! Random runs, as they are told, judged and kept.
 
-ghost use Rattle.std.specs.Prelude.{◌≤◌, length};
+ghost use Rattle.std.specs.Prelude.{◌≤◌, false, length, true};
 ghost use Rattle.exploration_text.specs.Sampling.{sampled_text};
 ghost use Rattle.exploration_text.specs.Text.{harts_text};
 ghost use Rattle.explore_command.specs.Keeping.{AreKeptFrom, IsOutcomeScript};
@@ -11,6 +11,7 @@ use crate::keeping::{Folder, Keepable};
 use command_files::{Fault, Files};
 use exploration_text::{harts_text, sampled_text};
 use explorer::{Found, Sampled};
+use flat_model::HartResult;
 use std::alloc::{AllocError, Global};
 
 /// What random runs came to.
@@ -30,6 +31,12 @@ impl Findings for Runs {
 
     ghost line = { λ r f. harts_text 0 (outcome_of f) };
 
+    ghost harts = { outcome_of };
+
+    ghost is_stuck = { λ r. false };
+
+    ghost is_incomplete = { λ r. true };
+
     ghost IsWhole = { λ r. r.asked ≤ r.sampled.runs };
 
     fn text(&self, alloc: Global) -> Result<Vec<u8>, AllocError> {
@@ -42,6 +49,20 @@ impl Findings for Runs {
 
     fn line(&self, alloc: Global, outcome: &Found) -> Result<Vec<u8>, AllocError> {
         harts_text(alloc, &outcome.harts)
+    }
+
+    fn harts(outcome: &Found) -> &[HartResult] {
+        &outcome.harts
+    }
+
+    // Runs don't show that no schedule ends, nor that there is no other end.
+
+    fn is_stuck(&self) -> bool {
+        false
+    }
+
+    fn is_incomplete(&self) -> bool {
+        true
     }
 
     fn is_whole(&self) -> bool {

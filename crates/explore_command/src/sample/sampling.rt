@@ -64,7 +64,7 @@ pub fn sample_files<'a, F: Files, O: Write, E: Write, P: Progress>(
         asked: runs,
     };
     print(alloc, &found, out)?;
-    let judgement = judge(alloc, &asked.allowed, &found, err);
+    let judgement = judge(alloc, wanted, &asked.allowed, &found, err);
     keep(alloc, files, wanted, asked.config, &found)?;
     judgement
 }

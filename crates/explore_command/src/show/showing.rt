@@ -71,7 +71,7 @@ pub fn show_files<'a, F: Files, O: Write, E: Write, P: Progress>(
         exploration,
     };
     print(alloc, &found, out)?;
-    let judgement = judge(alloc, &allowed, &found, err);
+    let judgement = judge(alloc, explore, &allowed, &found, err);
     keep(alloc, files, explore, config, found.exploration)?;
     judgement
 }

@@ -47,7 +47,7 @@ returns-clause-explored g c =
     (λ judgement so.
     whole (g.F.Files.held c.args.files.now) c.args.wanted c.in_ok-asked.asked.config c.in_ok-asked.asked.image c.in-Ok.found c.in_ok-asked.ensures.config.0 c.in_ok-asked.ensures.config.1 c.in_ok-asked.ensures.image
     c.in-Ok.ensures
-    _ _ (g.F.Files.held c.keep.new.files) judgement c.in_ok-print.ensures.printed c.in_ok-asked.ensures.named c.in_ok-keep.ensures.kept (spared_after _ _ _ _ c.in_ok-asked.ensures.stays c.keep.ensures.spared) (judged _ c.args.wanted.allow _ _ judgement c.in_ok-asked.ensures.allowed so.0) so.1)
+    _ _ (g.F.Files.held c.keep.new.files) judgement c.in_ok-print.ensures.printed c.in_ok-asked.ensures.named c.in_ok-keep.ensures.kept (spared_after _ _ _ _ c.in_ok-asked.ensures.stays c.keep.ensures.spared) (judged _ c.args.wanted.allow _ _ _ judgement c.in_ok-asked.ensures.allowed so.0) so.1)
     (ok_both _ _ c.judge-judgement.result c.judge-judgement.ensures.judged c.judge-judgement.ensures.whole)
 
 pub returns-clause-told : goal.returns-clause-told
@@ -87,7 +87,7 @@ returns-clause-noted g c =
     (λ judgement so.
     refusals (g.F.Files.held c.args.files.now) c.args.wanted c.in_ok-asked.asked.config c.in_ok-asked.asked.image c.in-Ok.found c.in_ok-asked.ensures.config.0 c.in_ok-asked.ensures.config.1 c.in_ok-asked.ensures.image
     c.in-Ok.ensures
-    _ _ _ c.in_ok-print.ensures.printed (refusals_in _ c.args.wanted.allow _ _ _ c.in_ok-asked.ensures.allowed so))
+    _ _ _ c.in_ok-print.ensures.printed (refusals_in _ c.args.wanted.allow _ _ _ _ c.in_ok-asked.ensures.allowed so))
     c.judge-judgement.ensures.noted
 
 -- standard error is as before where the fault comes before the scripts
@@ -110,7 +110,7 @@ returns-in_err-keep-clause-judged_first g c =
     (refusals (g.F.Files.held c.args.files.now) c.args.wanted c.in_ok-asked.asked.config c.in_ok-asked.asked.image c.in-Ok.found c.in_ok-asked.ensures.config.0 c.in_ok-asked.ensures.config.1 c.in_ok-asked.ensures.image
     c.in-Ok.ensures
     _ _ _ c.in_ok-print.ensures.printed
-    (refusals_in _ c.args.wanted.allow _ _ _ c.in_ok-asked.ensures.allowed (begun_by _ _ _ c.judge-judgement.result c.judge-judgement.ensures.noted c.judge-judgement.ensures.silent))))
+    (refusals_in _ c.args.wanted.allow _ _ _ _ c.in_ok-asked.ensures.allowed (begun_by _ _ _ c.judge-judgement.result c.judge-judgement.ensures.noted c.judge-judgement.ensures.silent))))
 
 pub returns-clause-judged_first : goal.returns-clause-judged_first
 returns-clause-judged_first g c = on_err_more c.judge-judgement.result inl c.judge-judgement.ensures.silent

@@ -1,0 +1,32 @@
+-- What it means that a search which was to fail on anything passed.
+use Rattle.std.specs.Prelude.{ℕ, ◌≡◌, ◌&&◌, Bool, true, false, List, Option, codes}
+use Rattle.command_files.specs.Contents.{Contents}
+use Rattle.command_files.specs.Faults.{Name}
+use Rattle.command_files.specs.Sizes.{config_named}
+use Rattle.command_settings.specs.Settings.{lists}
+use Rattle.command_settings.specs.declared.wanted.Explore.{Explore}
+use Rattle.elf_loader.specs.Image.{Initial, IsImage}
+use Rattle.explore_command.specs.Exploring.{IsExplorationTold}
+use Rattle.explore_command.specs.Judging.{has_stopped}
+use Rattle.explore_command.specs.declared.judging.Judgement.TheVariants.{Allowed}
+use Rattle.explorer.specs.Outcomes.{CanAlwaysEnd}
+use Rattle.flat_model.specs.Shown.{results}
+use Rattle.machine_types.specs.declared.config.Config.{Config}
+use Rattle.machine_types.specs.declared.event.Event.{Event}
+use Rattle.schedules.specs.Schedules.{led}
+
+-- whatever events come in whatever order, no hart has stopped, be the others at their ends or not
+abbrev pub NoneStops : Initial → Config → Type 0
+NoneStops image config = (events : List Event) → has_stopped (results (led image config events)) ≡ false
+
+-- the list has all that a search may come to
+abbrev pub lists_all : Option Name → Bool
+lists_all list = lists (codes "failure") list && (lists (codes "stuck") list && lists (codes "incomplete") list)
+
+-- no hart ever stops, and wherever flat events lead, some more lead to where all harts have ended
+pub record IsSafe (image : Initial) (config : Config) : Type 0 where
+  pub none_stops : NoneStops image config
+  pub ends : CanAlwaysEnd image config
+
+abbrev pub PassingIsSafe : Type 0
+PassingIsSafe = (held left : Contents) (wanted : Explore) (old new : Option (List ℕ)) (told : IsExplorationTold held left wanted Allowed old new) → IsImage told.image → lists_all wanted.fail_on ≡ true → IsSafe told.image (config_named wanted.machine told.inside)
