@@ -1,2 +1,9 @@
+pub mod Decimals
+pub mod Immediates
+pub mod Mnemonics
 pub mod Names
+pub mod Naming
+pub mod ReadBack
+pub mod Spelling
+pub mod Splitting
 pub mod Suffixing

@@ -7,3 +7,4 @@ pub mod Numbers
 pub mod Operands
 pub mod Formats
 pub mod Reading
+pub mod Laws

@@ -4,6 +4,7 @@
 mod find;
 mod formats;
 mod forms;
+mod laws;
 mod numbers;
 mod operands;
 mod reading;
@@ -16,6 +17,7 @@ mod suffix;
 mod tests;
 
 pub use formats::load_word;
+pub use laws::spelling_reads_back;
 pub use reading::read_statement;
 pub use registers::register_of;
 pub use statement::{Statement, StatementError};

@@ -91,7 +91,10 @@ fn branches_name_labels(rt: HostRuntime) -> Result<(), Fail> {
     };
     match statement {
         Statement::Branch {
-            rs1, rs2, label, ..
+            rs1,
+            rs2,
+            label,
+            ..
         } => {
             assert_eq!(rt; rs1.number(), 6);
             assert_eq!(rt; rs2.number(), 5);
