@@ -69,7 +69,7 @@ fn put_entry(out: &mut Vec<Instr>, hart: usize, place: usize) -> Result<(), Code
     let Ok(branch) = branch(BranchOp::Beq, hart_number, compared, here, place as u32) else {
         return Err(too_long);
     };
-    out.extend_from_slice(&[add(31, 0, number - 1), branch])?;
+    out.extend_from_slice(&[add(31, 0, number), branch])?;
     Ok(())
 }
 
