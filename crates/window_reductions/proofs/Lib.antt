@@ -1,0 +1,10 @@
+pub mod Closing
+pub mod Covering
+pub mod Ending
+pub mod Guessing
+pub mod Leaving
+pub mod Lessening
+pub mod Onward
+pub mod Shrinking
+pub mod Simulations
+pub mod Stopping
