@@ -16,8 +16,12 @@ use rvwmo_order::{CheckError, Verdict, check_model};
 use std::alloc::Global;
 use std::io::{self, Write};
 use text_fields::{Piece, put_pieces};
-use trace_operations::{completed, has_too_many};
+use trace_operations::{completed, few_names, has_too_many};
 use trace_recorder::Trace;
+
+/// Which order is judged where a trace states none.
+const UNSTATED: &str =
+    "no P line states an order, so that of hart 0's operations, then hart 1's, and so on, was judged";
 
 /// Reads a trace, judges its completed order under the model, and prints the verdict on `out`.
 pub fn check_file<'a, F: Files, O: Write>(
@@ -43,21 +47,45 @@ pub fn check_file<'a, F: Files, O: Write>(
             return Err(Fault::check(file, error));
         }
     };
-    if let Verdict::Fault(code, first, second) = verdict {
-        remark(
-            alloc,
-            files,
-            OrderNote {
-                trace: &trace,
-                code,
-                first,
-                second,
-            },
-        );
-    }
+    remark_judged(alloc, files, &trace, verdict);
     match print(verdict, out) {
         Ok(()) => Ok(verdict),
         Err(error) => Err(Fault::writing(error)),
+    }
+}
+
+/// Remarks what a verdict says of a trace's order, and which order it is of where the trace states none.
+fn remark_judged<F: Files>(alloc: Global, files: &mut F, trace: &Trace, verdict: Verdict)
+    ensures { F.held files.new ≡ F.held files.old }
+{
+    let is_unstated = states_no_order(alloc, trace);
+    match verdict {
+        Verdict::Legal if is_unstated => remark(alloc, files, UNSTATED),
+        Verdict::Legal => {}
+        Verdict::Fault(code, first, second) => {
+            let note = OrderNote {
+                trace,
+                code,
+                first,
+                second,
+            };
+            if is_unstated {
+                remark(alloc, files, format_args!("{note}; {UNSTATED}"));
+            } else {
+                remark(alloc, files, note);
+            }
+        }
+    }
+}
+
+/// Whether a trace has several memory operations, and no P line.
+fn states_no_order(alloc: Global, trace: &Trace) -> bool {
+    if !trace.performed().is_empty() {
+        return false;
+    }
+    match few_names(alloc, trace) {
+        Ok(Some(names)) => names.len() > 1,
+        _ => false,
     }
 }
 

@@ -1,10 +1,8 @@
-use Rattle.std.proofs.Common.{refl, subst, sym}
-use Rattle.check_command.specs.Checking.{IsVerdict}
+use Rattle.std.proofs.Common.{refl}
 use Rattle.check_command.proofs.Unread.{check_told, trace_is_not_write}
 use Rattle.command_files.proofs.Left.{handed_up, left}
 use Rattle.check_command.proofs.Told.{of_refusal, of_trace, text_is_not_write, trace_held}
 use Rattle.check_command.proofs.checking.check_file.Goals as goal
-use Rattle.check_command.proofs.checking.check_file.Goals.{in-Fault, in_default}
 
 pub returns-in_err-bytes-clause-unfinished : goal.returns-in_err-bytes-clause-unfinished
 returns-in_err-bytes-clause-unfinished g c =
@@ -31,9 +29,6 @@ pub returns-in-Ok-print-clause-judged : goal.returns-in-Ok-print-clause-judged
 returns-in-Ok-print-clause-judged g c = record {
   trace = c.in_ok-trace.trace.history;
   file = trace_held (g.F.Files.held c.args.files.now) c.args.file.now c.in_ok-bytes.bytes.items c.as_slice.result.now c.in_ok-trace.trace.history c.in_ok-bytes.ensures.bytes c.as_slice.ensures.value c.in_ok-trace.ensures.read;
-  judged = elim c.match-verdict.branch [
-    | in-Fault w ↦ subst (IsVerdict c.args.model c.in_ok-trace.trace.history) (sym w.verdict-is) (subst (IsVerdict c.args.model c.in_ok-trace.trace.history) w.in-Fault.is c.in-Ok.ensures.judged)
-    | in_default w ↦ subst (IsVerdict c.args.model c.in_ok-trace.trace.history) (sym w.verdict-is) c.in-Ok.ensures.judged
-  ];
+  judged = c.in-Ok.ensures.judged;
   printed = c.in-Ok-print.ensures;
 }
