@@ -344,13 +344,58 @@ fn row_25_of_numbers(rt: HostRuntime) -> Result<(), Fail> {
 #[test]
 fn row_47(rt: HostRuntime) -> Result<(), Fail> {
     let report = ran(&rt, &SPIN, config_of(1, LineSize::Bytes16)?, LIMIT, &Open)?;
-    same(&rt, report.journal.len(), 3906);
     let row = Event::Local {
         hart: 0,
         count: 256,
     };
-    same(&rt, report.journal.iter().all(|event| *event == row), true);
+    let (rows, steps) = report.journal.split_at_checked(3906).ok_or("rows")?;
+    same(&rt, rows.iter().all(|event| *event == row), true);
+    same(&rt, steps.len(), 64);
+    same(&rt, steps.iter().all(|event| *event == STEP), true);
     same(&rt, report.trace.statuses(), &[Status::Running]);
+    Ok(())
+}
+
+/// Hart 0 stores to a word and then jumps to itself; each other hart loads that word and exits.
+const ONE_SPINS: [u32; 7] = [
+    0x80000637, 0x00051863, 0x00100693, 0x10d62023, 0x0000006f, 0x10062703, 0x00000073,
+];
+
+/// Hart 1 begins once hart 0 has published a list of the greatest length.
+#[derive(Drop)]
+struct AfterFull {
+    is_full: AtomicBool,
+}
+
+impl Gate for AfterFull {
+    fn pass(&self, hart: u8, turn: u64, lengths: &[u64]) {
+        if hart == 0 {
+            if lengths.first().is_some_and(|length| *length == 1_000_000) {
+                self.is_full.store(true, Ordering::SeqCst);
+            }
+            return;
+        }
+        for _ in 0..if turn == 0 { MOST_POLLS } else { 0 } {
+            if self.is_full.load(Ordering::SeqCst) {
+                return;
+            }
+            thread::yield_now();
+        }
+    }
+}
+
+// A hart whose list is full gives up its line, which another one waits for, and the run ends.
+#[test]
+fn a_full_hart_answers_probes(rt: HostRuntime) -> Result<(), Fail> {
+    let gate = AfterFull {
+        is_full: AtomicBool::new(false),
+    };
+    let config = config_of(2, LineSize::Bytes16)?;
+    let report = ran(&rt, &ONE_SPINS, config, LIMIT, &gate)?;
+    same(&rt, gate.is_full.load(Ordering::SeqCst), true);
+    let ends = [Status::Running, Status::Exited(1)];
+    same(&rt, report.trace.statuses(), &ends);
+    same(&rt, last_loaded(&report.trace), Some(1));
     Ok(())
 }
 

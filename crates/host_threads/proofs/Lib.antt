@@ -4,6 +4,7 @@ pub mod Joining
 pub mod Leading
 pub mod Limit
 pub mod Pace
+pub mod Reasons
 pub mod Reported
 pub mod Round
 pub mod Sets

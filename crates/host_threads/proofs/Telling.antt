@@ -7,9 +7,8 @@ use Rattle.coherent_machine.specs.Adopting.{local_of}
 use Rattle.coherent_machine.specs.declared.errors.AdoptError.{AdoptError}
 use Rattle.hart.specs.Local.{PrivateRow}
 use Rattle.hart.specs.declared.status.Status.{Status}
-use Rattle.host_threads.specs.Faults.{goes_on}
-use Rattle.host_threads.specs.Telling.{CountsTo, Reports, Tells, has_ended, longest_with}
-use Rattle.host_threads.specs.declared.report.Fault.{Fault}
+use Rattle.host_threads.specs.Endings.{is_spent}
+use Rattle.host_threads.specs.Telling.{CountsTo, Reports, Tells, is_done, longest_with}
 use Rattle.locked_fabric.specs.FabricState.{Answered, Does, FabricState, journalled}
 use Rattle.locked_fabric.specs.Port.{Applied, Committed, Left, seen_in}
 use Rattle.locked_fabric.specs.Turns.{Draws, DrewInVain, IsPick, Leaves}
@@ -86,37 +85,34 @@ is_picked P Over found pick = pick.1
 is_picked P (HeldBack number event) found pick = pick
 is_picked P (Tried number event came) found pick = pick
 
-on_ok : {X E : Type 0} (P : Type 0) (r : Result X E) → P → OnOk r P
-on_ok P (Ok x) p = p
-on_ok P (Err e) p = tt
-
 -- an event that was applied once nothing had counted
-pub applied_seen : (event : Event) (result : Result Outcome ApplyError) (before count counted own hart : ℕ) (seen : Option (ℕ × Status)) → count ≡ before → own ≡ hart
-    → Left (λ left. Applied event result count counted left × (seen ≡ seen_in left.machine.trace own))
-    → OnOk result (Left (λ left. CountsTo before counted left × (seen ≡ seen_in left.machine.trace hart)))
-applied_seen event result before count counted own hart seen same mine left =
-    on_ok (Left (λ left. CountsTo before counted left × (seen ≡ seen_in left.machine.trace hart))) result (
-      left.0,
-      left.1,
-      (
-        subst (λ (n : ℕ). CountsTo n counted left.0) same (applied_counts event result count counted left.0 left.2.0),
-        left.2.1 ∙ ap (λ (h : ℕ). seen_in left.0.machine.trace h) mine,
-      ),
-    )
+pub applied_seen : (event : Event) (result : Result Outcome ApplyError) (before count counted own hart : ℕ) (seen : Option (ℕ × Status)) (spent : Bool) → count ≡ before → own ≡ hart
+    → Left (λ left. Applied event result count counted left × (seen ≡ seen_in left.machine.trace own) × (spent ≡ is_spent left.machine))
+    → Left (λ left. CountsTo before counted left × (seen ≡ seen_in left.machine.trace hart) × (spent ≡ is_spent left.machine))
+applied_seen event result before count counted own hart seen spent same mine left = (
+  left.0,
+  left.1,
+  (
+    subst (λ (n : ℕ). CountsTo n counted left.0) same (applied_counts event result count counted left.0 left.2.0),
+    left.2.1 ∙ ap (λ (h : ℕ). seen_in left.0.machine.trace h) mine,
+    left.2.2,
+  ),
+)
 
 -- what was seen under the lock that took a row
-pub committed_seen : (row : PrivateRow) (result : Result Outcome AdoptError) (before counted own hart : ℕ) (seen : Option (ℕ × Status)) → own ≡ hart
-    → Left (λ left. Committed row result before counted left × (seen ≡ seen_in left.machine.trace own))
-    → OnOk result (Left (λ left. CountsTo before counted left × (seen ≡ seen_in left.machine.trace hart)))
-committed_seen row (Ok outcome) before counted own hart seen mine left = (
+pub committed_seen : (row : PrivateRow) (result : Result Outcome AdoptError) (before counted own hart : ℕ) (seen : Option (ℕ × Status)) (spent : Bool) → own ≡ hart
+    → Left (λ left. Committed row result before counted left × (seen ≡ seen_in left.machine.trace own) × (spent ≡ is_spent left.machine))
+    → OnOk result (Left (λ left. CountsTo before counted left × (seen ≡ seen_in left.machine.trace hart) × (spent ≡ is_spent left.machine)))
+committed_seen row (Ok outcome) before counted own hart seen spent mine left = (
   left.0,
   left.1,
   (
     counts_one (local_of row.first.id row) left.2.0.old left.0 left.0.machine before counted left.2.0.ok left.2.0.counted,
     left.2.1 ∙ ap (λ (h : ℕ). seen_in left.0.machine.trace h) mine,
+    left.2.2,
   ),
 )
-committed_seen row (Err error) before counted own hart seen mine left = tt
+committed_seen row (Err error) before counted own hart seen spent mine left = tt
 
 -- ---- what a draw leaves
 
@@ -154,8 +150,8 @@ seat_untold old mid is = record { hart = ap (λ (s : Seat). (view s).hart) is; l
 
 -- what is told behind that is told of what was before
 pub tells_then : (changed : Bool) (seen : Option (ℕ × Status)) (old mid new : View) → IsUntold old mid → Tells changed seen mid new → Tells changed seen old new
-tells_then true seen old mid new untold tells = record { length = tells.length ∙ ap (λ (n : ℕ). longest_with seen n) untold.longest; bit = tells.bit ∙ ap (λ (b : Bool). has_ended seen || b) untold.halted }
-tells_then false seen old mid new untold tells = record { length = tells.length ∙ untold.longest; bit = tells.bit ∙ ap (λ (b : Bool). has_ended seen || b) untold.halted }
+tells_then true seen old mid new untold tells = record { length = tells.length ∙ ap (λ (n : ℕ). longest_with seen n) untold.longest; bit = tells.bit ∙ ap (λ (b : Bool). is_done seen || b) untold.halted }
+tells_then false seen old mid new untold tells = record { length = tells.length ∙ untold.longest; bit = tells.bit ∙ ap (λ (b : Bool). is_done seen || b) untold.halted }
 
 -- ---- a turn
 
@@ -175,14 +171,3 @@ reports hart own count counted ended changed seen old mid new left counts same i
       counts = subst (λ (n : ℕ). CountsTo count n left) (sym same) counts;
       tells = subst (λ (s : Option (ℕ × Status)). Tells (not (ended == count)) s old new) at (subst (λ (b : Bool). Tells b seen old new) change (tells_then changed seen old mid new untold tells));
     }
-
--- an answer behind which another turn follows is an outcome, and another is an error
-pub went_on : (P : Type 0) (came : Result Outcome ApplyError) (result : Result Bool Fault) → result ≡ goes_on came → OnOk came P → result ≡ Ok true → P
-went_on P (Ok outcome) result is p on = p
-went_on P (Err apply.Limit) result is p on = absurd (cc (sym is ∙ on))
-went_on P (Err apply.NoMemory) result is p on = absurd (cc (sym is ∙ on))
-went_on P (Err apply.BadEvent) result is p on = absurd (cc (sym is ∙ on))
-
-pub stopped : (P : Type 0) (came : Result Outcome ApplyError) (result : Result Bool Fault) → result ≡ goes_on came → OnErr came P → result ≢ Ok true → P
-stopped P (Ok outcome) result is p on = absurd (on is)
-stopped P (Err error) result is p on = p

@@ -1,8 +1,10 @@
 pub mod Asked
 pub mod Due
+pub mod Endings
 pub mod Errors
 pub mod Faults
 pub mod Pace
+pub mod Picking
 pub mod Replays
 pub mod Route
 pub mod Telling

@@ -1,10 +1,11 @@
 -- What a worker tells the board of its hart, by what it saw of the hart as it held the lock.
-use Rattle.std.specs.Prelude.{◌≡◌, ◌⊎◌, ℕ, ◌+◌, ◌==◌, ◌||◌, Bool, false, not, max, Option, Some, None, if◌then◌else◌}
+use Rattle.std.specs.Prelude.{◌≡◌, ◌⊎◌, ℕ, ◌+◌, ◌==◌, ◌||◌, Bool, false, not, max, nat_le, Option, Some, None, if◌then◌else◌}
 use Rattle.hart.specs.Run.{is_running}
 use Rattle.hart.specs.declared.status.Status.{Status}
 use Rattle.locked_fabric.specs.FabricState.{FabricState}
 use Rattle.locked_fabric.specs.Port.{IsLast, seen_in}
 use Rattle.machine_types.specs.declared.event.Event.{Event}
+use Rattle.machine_types.specs.declared.limits.TheConstants.{MAX_ENTRIES}
 use Rattle.progress_board.specs.declared.view.View.{View}
 
 -- the greatest length published, once that of the hart's list was, as it was seen
@@ -12,15 +13,19 @@ abbrev pub longest_with : Option (ℕ × Status) → ℕ → ℕ
 longest_with None longest = longest
 longest_with (Some seen) longest = max longest seen.0
 
--- the hart was seen, and wasn't running
-abbrev pub has_ended : Option (ℕ × Status) → Bool
-has_ended None = false
-has_ended (Some seen) = not (is_running seen.1)
+-- a list of so many entries is as long as a list may be
+abbrev pub is_full : ℕ → Bool
+is_full length = nat_le MAX_ENTRIES length
 
--- the length is published where the machine changed and else none, and the bit is set where the hart isn't running
+-- the hart was seen, and retires no more: it wasn't running, or its list was full
+abbrev pub is_done : Option (ℕ × Status) → Bool
+is_done None = false
+is_done (Some seen) = not (is_running seen.1) || is_full seen.0
+
+-- the length is published where the machine changed and else none, and the bit is set where the hart retires no more
 pub record Tells (changed : Bool) (seen : Option (ℕ × Status)) (old new : View) : Type 0 where
   pub length : new.longest ≡ (if changed then longest_with seen old.longest else old.longest)
-  pub bit : new.halted ≡ (has_ended seen || old.halted)
+  pub bit : new.halted ≡ (is_done seen || old.halted)
 
 -- a share counts no event more; or it counts one, which changed the machine, and stands last in the journal of the fabric that was left
 abbrev pub CountsTo : (count counted : ℕ) → FabricState → Type 0

@@ -1,5 +1,6 @@
 -- What contracts see of a worker, and what its thread hands back.
 use Rattle.std.specs.Prelude.{◌≡◌, ℕ, true, Option}
+use Rattle.host_threads.specs.Endings.{IsReason}
 use Rattle.host_threads.specs.Pace.{IsPaced}
 use Rattle.host_threads.specs.declared.common.Common.{Common}
 use Rattle.host_threads.specs.declared.worker.Done.{Done}
@@ -31,8 +32,9 @@ turn_of worker = worker.turn.turn
 abbrev pub seen_by : {L T : Type 0} {g : turn.Ghosts T} → Worker L T g → Option (ℕ × Status)
 seen_by worker = worker.turn.seen
 
--- its seat, whose hart has halted, and a share that counts no more events than the seat drew numbers below the limit
+-- its seat, whose hart has halted, a share that counts no more events than the seat drew numbers below the limit, and why it ended
 pub record HandsBack {L : Type 0} (common : Common) (done : Done L) : Type 0 where
   pub seat : IsSeatOf common.board done.seat
   pub halted : (view done.seat).halted ≡ true
   pub paced : IsPaced common.limit (view done.seat) done.share
+  pub reason : IsReason common (view done.seat) done.ending

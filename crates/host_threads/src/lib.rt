@@ -5,6 +5,7 @@
 
 mod common;
 mod crew;
+mod ending;
 mod gate;
 mod report;
 mod reporting;

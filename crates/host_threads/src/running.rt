@@ -27,8 +27,9 @@ use std::sync::ledger::{Blank, Ledger};
 use std::sync::{Mutex, Wait};
 use std::thread::Threads;
 
-/// Runs each hart in a thread of its own, whose turns are [`Rounds`]. The run is over when all harts have
-/// ended, or after as many events as the limit says.
+/// Runs each hart in a thread of its own, whose turns are [`Rounds`]. The run is over when each hart has ended or
+/// has retired as much as a hart may, after as many events as the limit says, and where the machine has changed as
+/// often as it may.
 pub fn run<G: Gate + Sync, R: Threads + Wait + Sync>(
     rt: &R,
     alloc: Global,
@@ -162,8 +163,12 @@ fn handed_back<L: Ledger>(
     let mut seats = Vec::with_capacity(alloc, done.len())?;
     let mut shares = Vec::with_capacity(alloc, done.len())?;
     for one in done {
-        let Done { seat, share, fault } = one;
-        if let Some(fault) = fault {
+        let Done {
+            seat,
+            share,
+            ending,
+        } = one;
+        if let Some(fault) = ending.fault() {
             return Err(RunError::from(fault));
         }
         seats.push_reserved(seat);

@@ -3,6 +3,7 @@
 ghost use Rattle.std.specs.Prelude.{◌≡◌, ◌<◌, ◌↔◌, IsTrue, Some, length, true};
 ghost use Rattle.hart.specs.Local.{can_go_alone};
 ghost use Rattle.host_threads.specs.Telling as telling;
+ghost use Rattle.host_threads.specs.Picking as picking;
 ghost use Rattle.machine_types.specs.declared.event.Event.TheVariants as TheEvents;
 ghost use Rattle.machine_model.specs.Views.{node_at};
 
@@ -10,7 +11,7 @@ use coherent_machine::{Machine, Views};
 use elf_loader::Image;
 use hart::{Hart, Status, next_alone};
 use locked_fabric::{Turn, Visit, seen_in};
-use machine_types::{Event, Outcome};
+use machine_types::{Event, MAX_CHANGES, MAX_ENTRIES, Outcome};
 
 /// A hart's turn, with what is seen of the hart under the same lock.
 #[derive(Drop)]
@@ -25,15 +26,34 @@ pub(crate) struct Watched<'a, T: Turn + Drop> {
     pub(crate) stood: Hart,
     /// The length of the hart's list and its status, as they were when the lock was held last.
     pub(crate) seen: Option<(u64, Status)>,
+    /// Whether the machine changed no more when the lock was held last.
+    pub(crate) is_spent: bool,
 }
 
 impl<'a, T: Turn + Drop> Watched<'a, T> {
-    /// Whether the hart was not running.
-    pub(crate) fn has_ended(&self) -> bool
-        ensures { result ≡ telling.has_ended self.now.seen }
+    /// Whether the hart was not running, or retires no more: its list was full.
+    pub(crate) fn is_done(&self) -> bool
+        ensures { result ≡ telling.is_done self.now.seen }
     {
         self.seen
-            .is_some_and(|(_length, status)| !status.is_running())
+            .is_some_and(|(length, status)| !status.is_running() || is_full(length))
+    }
+
+    // Whether the hart's list was full.
+    fn was_full(&self) -> bool
+        ensures { result ≡ picking.was_full self.now.seen }
+    {
+        self.seen.is_some_and(|(length, _status)| is_full(length))
+    }
+
+    // What is left of a pick: no instruction of the hart, once its list is full.
+    fn left_of(&self, picked: Option<Event>) -> Option<Event>
+        ensures { result ≡ picking.left_of self.now.seen self.now.hart picked }
+    {
+        match picked {
+            Some(event) if self.was_full() && is_instruction_of(event, self.hart) => None,
+            _ => picked,
+        }
     }
 }
 
@@ -50,7 +70,8 @@ impl<'a, T: Turn + Drop> Turn for Watched<'a, T> {
             × (can_go_alone self.old.image.now (node_at views.now self.old.hart).hart ≡ true)) }
         ensures stood { IsTrue self.new.is_stepping → self.new.stood ≡ (node_at views.now self.old.hart).hart }
     {
-        let picked = self.turn.pick(views, last);
+        let asked = self.turn.pick(views, last);
+        let picked = self.left_of(asked);
         let hart = self.hart;
         self.is_stepping = false;
         if usize::from(hart) < views.harts() && is_step_of(picked, hart) {
@@ -67,10 +88,11 @@ impl<'a, T: Turn + Drop> Turn for Watched<'a, T> {
 impl<'a, T: Turn + Drop> Visit for Watched<'a, T> {
     ghost use Rattle.std.specs.Prelude.{◌≡◌};
     ghost use Rattle.locked_fabric.specs.Port.{seen_in};
+    ghost use Rattle.host_threads.specs.Endings.{is_spent};
 
     ghost withholds = { λ watched answer. answer ≡ watched.is_stepping };
 
-    ghost sees = { λ before s after. after ≡ record before { seen = seen_in s.trace before.hart } };
+    ghost sees = { λ before s after. after ≡ record before { seen = seen_in s.trace before.hart; is_spent = is_spent s } };
 
     /// A private step is held back: the hart goes on alone.
     fn holds_back(&self) -> bool {
@@ -79,6 +101,24 @@ impl<'a, T: Turn + Drop> Visit for Watched<'a, T> {
 
     fn see(&mut self, machine: &Machine) {
         self.seen = seen_in(machine.trace(), self.hart);
+        self.is_spent = machine.views().changes() >= MAX_CHANGES;
+    }
+}
+
+// Whether the list of a hart is as long as a list may be.
+fn is_full(length: u64) -> bool
+    ensures { result ≡ telling.is_full length }
+{
+    length >= MAX_ENTRIES as u64
+}
+
+// Whether the event is of the hart's instructions, by which its list grows.
+fn is_instruction_of(event: Event, hart: u8) -> bool
+    ensures { result ≡ picking.is_instruction_of hart event }
+{
+    match event {
+        Event::Step { hart: own } | Event::Local { hart: own, .. } => own == hart,
+        Event::Drain { .. } | Event::Evict { .. } | Event::Deliver { .. } => false,
     }
 }
 

@@ -1,16 +1,17 @@
 //! What one thread does.
 
-ghost use Rattle.std.specs.Prelude.{◌≡◌, ◌≢◌, ◌+◌, ◌==◌, false, true, Ok, IfOk, None, OnErr, OnOk, not};
+ghost use Rattle.std.specs.Prelude.{◌≡◌, ◌≢◌, ◌+◌, ◌==◌, false, true, Err, IfOk, IfSome, None, OnErr, OnOk, not};
 ghost use Rattle.coherent_machine.specs.Adopting.{local_of};
 ghost use Rattle.hart.specs.Local.{private_row_from};
-ghost use Rattle.host_threads.specs.Faults.{goes_on};
+ghost use Rattle.host_threads.specs.Endings.{IsReason, WasBad, ending_of, fault_of, is_spent, outcome_of};
 ghost use Rattle.host_threads.specs.Pace.{IsPaced};
-ghost use Rattle.host_threads.specs.Telling.{CountsTo, Reports, Tells, has_ended, longest_with};
+ghost use Rattle.host_threads.specs.Telling.{CountsTo, Reports, Tells, is_done, longest_with};
 ghost use Rattle.locked_fabric.specs.Port.{IsLast, Left, seat_of, seen_in, share_of};
 ghost use Rattle.machine_types.specs.declared.limits.TheConstants.{MAX_ROW};
 ghost use Rattle.progress_board.specs.Seat.{IsSeatOf, view};
 
 use crate::common::Common;
+use crate::ending::Ending;
 use crate::gate::Gate;
 use crate::report::Fault;
 use crate::watched::Watched;
@@ -51,7 +52,7 @@ pub(crate) struct Worker<'a, L: Ledger, T: Turn + Drop> {
 pub(crate) struct Done<L: Ledger> {
     pub(crate) seat: Seat,
     pub(crate) share: Share<L>,
-    pub(crate) fault: Option<Fault>,
+    pub(crate) ending: Ending,
 }
 
 impl<'a, L: Ledger, T: Turn + Drop> Worker<'a, L, T> {
@@ -73,6 +74,7 @@ impl<'a, L: Ledger, T: Turn + Drop> Worker<'a, L, T> {
             is_stepping: false,
             stood: Hart::at_reset(hart, common.image.entry(), common.config.harts),
             seen: None,
+            is_spent: false,
         };
         Worker {
             common,
@@ -88,15 +90,23 @@ impl<'a, L: Ledger, T: Turn + Drop> Worker<'a, L, T> {
     pub(crate) fn run<R: Wait, G: Gate>(mut self, rt: &R, gate: &G) -> Done<L>
         ensures { HandsBack (common_of self.entry) result }
     {
-        let fault = self.take_turns(rt, gate);
+        let ending = self.take_turns(rt, gate);
+        if ending.fault().is_some() {
+            self.stop_all();
+        }
         self.halt();
         let (seat, share) = self.port.end();
-        Done { seat, share, fault }
+        Done {
+            seat,
+            share,
+            ending,
+        }
     }
 
-    // Takes turns until the run is over for this hart. Why it stopped before, where it did.
-    fn take_turns<R: Wait, G: Gate>(&mut self, rt: &R, gate: &G) -> Option<Fault>
-        ensures { self.new.common ≡ self.old.common }
+    // Takes turns until the run is over for this hart, and tells why it is.
+    fn take_turns<R: Wait, G: Gate>(&mut self, rt: &R, gate: &G) -> Ending
+        ensures common { self.new.common ≡ self.old.common }
+        ensures reason { IsReason (common_of self.old) (told_by self.new) result }
     {
         let mut turn = 0u64;
         for _ in rt.forever() {
@@ -105,16 +115,11 @@ impl<'a, L: Ledger, T: Turn + Drop> Worker<'a, L, T> {
             }
             self.pass(gate, turn);
             turn = turn.wrapping_add(1);
-            match self.take_turn(rt, gate) {
-                Ok(true) => {}
-                Ok(false) => break,
-                Err(fault) => {
-                    self.stop_all();
-                    return Some(fault);
-                }
+            if let Some(ending) = self.take_turn(rt, gate) {
+                return ending;
             }
         }
-        None
+        Ending::Stopped
     }
 
     // Lets the gate see the published lengths.
@@ -130,27 +135,25 @@ impl<'a, L: Ledger, T: Turn + Drop> Worker<'a, L, T> {
         gate.pass(self.hart, turn, &lengths[..usize::from(harts)]);
     }
 
-    // One turn. Whether another one follows.
-    fn take_turn<R: Wait, G: Gate>(&mut self, rt: &R, gate: &G) -> Result<bool, Fault>
+    // One turn. Why no other one follows, where none does.
+    fn take_turn<R: Wait, G: Gate>(&mut self, rt: &R, gate: &G) -> Option<Ending>
         ensures common { self.new.common ≡ self.old.common }
-        ensures goes { (result ≡ Ok true) → Left (Reports self.old.hart (counted_by self.old) (counted_by self.new) (told_by self.old) (told_by self.new)) }
-        ensures ends { (result ≢ Ok true) → (counted_by self.new ≡ counted_by self.old) × Tells false None (told_by self.old) (told_by self.new) }
+        ensures goes { (result ≡ None) → Left (Reports self.old.hart (counted_by self.old) (counted_by self.new) (told_by self.old) (told_by self.new)) }
+        ensures ends { (result ≢ None) → (counted_by self.new ≡ counted_by self.old) × Tells false None (told_by self.old) (told_by self.new) }
+        ensures reason { IfSome result (IsReason (common_of self.old) (told_by self.new)) }
     {
         let before = self.port.counted();
         let board = &self.common.board;
         if board.halted(self.port.seat()) == (1 << board.harts()) - 1 {
-            return Ok(false);
+            return Some(Ending::Halted);
         }
         let numbers = Numbers {
             board,
             limit: self.common.limit,
         };
         match self.port.take(rt, &numbers, &mut self.turn, self.last) {
-            Taken::Nothing => {
-                self.rest();
-                Ok(true)
-            }
-            Taken::Over => Ok(false),
+            Taken::Nothing => self.leave_out(),
+            Taken::Over => Some(Ending::Tries),
             Taken::HeldBack { number, event } => {
                 gate.draw(self.hart, number);
                 let came = self.go_alone(rt, event);
@@ -167,19 +170,20 @@ impl<'a, L: Ledger, T: Turn + Drop> Worker<'a, L, T> {
         }
     }
 
-    // Commits what the hart does next alone; where the hart stands there no more, applies its step.
+    // Commits what the hart does next alone; where the hart stands there no more, or its list has no room for as much,
+    // applies its step.
     fn go_alone<R: Wait>(&mut self, rt: &R, event: Event) -> Result<Outcome, ApplyError>
         requires { IsPaced self.old.common.now.limit (view (seat_of self.old.port)) (share_of self.old.port + 1) }
         ensures common { self.new.common ≡ self.old.common }
         ensures seat { seat_of self.new.port ≡ seat_of self.old.port }
-        ensures came { OnOk result (Left (λ left. CountsTo (counted_by self.old) (counted_by self.new) left × (seen_by self.new ≡ seen_in left.machine.trace self.old.hart))) }
+        ensures came { fault_of result ≡ None → Left (λ left. CountsTo (counted_by self.old) (counted_by self.new) left × (seen_by self.new ≡ seen_in left.machine.trace self.old.hart) × (self.new.turn.is_spent ≡ is_spent left.machine)) }
+        ensures bad { result ≡ Err ApplyError.BadEvent → WasBad }
         ensures err { OnErr result (counted_by self.new ≡ counted_by self.old) }
     {
         match self.commit(rt) {
             Ok(outcome) => Ok(outcome),
-            Err(AdoptError::Limit) => Err(ApplyError::Limit),
             Err(AdoptError::NoMemory) => Err(ApplyError::NoMemory),
-            Err(AdoptError::Stale | AdoptError::Empty) => {
+            Err(AdoptError::Limit | AdoptError::Stale | AdoptError::Empty) => {
                 self.port.apply(rt, event, &mut self.turn)
             }
         }
@@ -191,7 +195,7 @@ impl<'a, L: Ledger, T: Turn + Drop> Worker<'a, L, T> {
         ensures common { self.new.common ≡ self.old.common }
         ensures hart { self.new.hart ≡ self.old.hart }
         ensures seat { seat_of self.new.port ≡ seat_of self.old.port }
-        ensures came { OnOk result (Left (λ left. CountsTo (counted_by self.old) (counted_by self.new) left × (seen_by self.new ≡ seen_in left.machine.trace self.old.hart))) }
+        ensures came { OnOk result (Left (λ left. CountsTo (counted_by self.old) (counted_by self.new) left × (seen_by self.new ≡ seen_in left.machine.trace self.old.hart) × (self.new.turn.is_spent ≡ is_spent left.machine))) }
         ensures uncounted { OnErr result (counted_by self.new ≡ counted_by self.old) }
         ensures row { let row = private_row_from self.old.common.now.image self.old.turn.stood MAX_ROW in
             OnOk result (Left (IsLast (local_of row.first.id row))) }
@@ -204,34 +208,63 @@ impl<'a, L: Ledger, T: Turn + Drop> Worker<'a, L, T> {
         }
     }
 
-    // Tells the board what came of an event, before which so many counted. Whether another turn follows.
-    fn go_on(&mut self, came: Result<Outcome, ApplyError>, counted: u64) -> Result<bool, Fault>
+    // Tells the board what came of an event, before which so many counted. Why no turn follows, where none does.
+    fn go_on(&mut self, came: Result<Outcome, ApplyError>, counted: u64) -> Option<Ending>
         ensures common { self.new.common ≡ self.old.common }
-        ensures goes { result ≡ goes_on came }
+        ensures ends { result ≡ ending_of (fault_of came) (counted_by self.old == counted) self.old.turn.is_spent }
         ensures counts { counted_by self.new ≡ counted_by self.old }
-        ensures tells { OnOk came (Tells (not (counted_by self.old == counted)) (seen_by self.old) (told_by self.old) (told_by self.new)) }
-        ensures silent { OnErr came (Tells false None (told_by self.old) (told_by self.new)) }
+        ensures last { (result ≡ None) → self.new.last ≡ outcome_of came }
+        ensures tells { (result ≡ None) → Tells (not (counted_by self.old == counted)) (seen_by self.old) (told_by self.old) (told_by self.new) }
+        ensures silent { (result ≢ None) → Tells false None (told_by self.old) (told_by self.new) }
     {
-        let outcome = match came {
-            Ok(outcome) => outcome,
-            Err(ApplyError::Limit) => return Ok(false),
-            Err(ApplyError::NoMemory) => return Err(Fault::NoMemory),
-            Err(ApplyError::BadEvent) => return Err(Fault::BadEvent),
+        self.last = match came {
+            Ok(outcome) => Some(outcome),
+            Err(ApplyError::Limit) => None,
+            Err(ApplyError::NoMemory) => return Some(Ending::Failed(Fault::NoMemory)),
+            Err(ApplyError::BadEvent) => return Some(Ending::Failed(Fault::BadEvent)),
         };
-        self.last = Some(outcome);
         if self.port.counted() == counted {
-            self.rest();
-        } else {
-            self.rests = 0;
-            self.publish();
-            self.halt_at_end();
+            return self.idle();
         }
-        Ok(true)
+        self.rests = 0;
+        self.publish();
+        self.halt_when_done();
+        None
+    }
+
+    // Leaves out a turn of which nothing was picked, and so nothing comes.
+    fn leave_out(&mut self) -> Option<Ending>
+        ensures common { self.new.common ≡ self.old.common }
+        ensures ends { result ≡ ending_of None true self.old.turn.is_spent }
+        ensures counts { counted_by self.new ≡ counted_by self.old }
+        ensures last { self.new.last ≡ None }
+        ensures tells { (result ≡ None) → Tells false (seen_by self.old) (told_by self.old) (told_by self.new) }
+        ensures silent { (result ≢ None) → Tells false None (told_by self.old) (told_by self.new) }
+    {
+        self.last = None;
+        self.idle()
+    }
+
+    // Rests behind a turn that changed nothing; ends where the machine changes no more.
+    fn idle(&mut self) -> Option<Ending>
+        ensures common { self.new.common ≡ self.old.common }
+        ensures ends { result ≡ ending_of None true self.old.turn.is_spent }
+        ensures counts { counted_by self.new ≡ counted_by self.old }
+        ensures last { self.new.last ≡ self.old.last }
+        ensures tells { (result ≡ None) → Tells false (seen_by self.old) (told_by self.old) (told_by self.new) }
+        ensures silent { (result ≢ None) → Tells false None (told_by self.old) (told_by self.new) }
+    {
+        if self.turn.is_spent {
+            return Some(Ending::Changes);
+        }
+        self.rest();
+        None
     }
 
     // Publishes the length of the hart's list.
     fn publish(&mut self)
         ensures common { self.new.common ≡ self.old.common }
+        ensures last { self.new.last ≡ self.old.last }
         ensures counts { counted_by self.new ≡ counted_by self.old }
         ensures seen { seen_by self.new ≡ seen_by self.old }
         ensures length { (told_by self.new).longest ≡ longest_with (seen_by self.old) (told_by self.old).longest }
@@ -245,10 +278,11 @@ impl<'a, L: Ledger, T: Turn + Drop> Worker<'a, L, T> {
     // Waits a little: twice as long as before, until it is long enough to leave the processor to others.
     fn rest(&mut self)
         ensures common { self.new.common ≡ self.old.common }
+        ensures last { self.new.last ≡ self.old.last }
         ensures counts { counted_by self.new ≡ counted_by self.old }
         ensures tells { Tells false (seen_by self.old) (told_by self.old) (told_by self.new) }
     {
-        self.halt_at_end();
+        self.halt_when_done();
         if self.rests > DOUBLINGS {
             thread::yield_now();
             return;
@@ -261,13 +295,14 @@ impl<'a, L: Ledger, T: Turn + Drop> Worker<'a, L, T> {
         self.rests += 1;
     }
 
-    // Sets the hart's halted bit where the hart isn't running.
-    fn halt_at_end(&mut self)
+    // Sets the hart's halted bit where the hart retires no more: no other hart waits for its instructions.
+    fn halt_when_done(&mut self)
         ensures common { self.new.common ≡ self.old.common }
+        ensures last { self.new.last ≡ self.old.last }
         ensures counts { counted_by self.new ≡ counted_by self.old }
         ensures tells { Tells false (seen_by self.old) (told_by self.old) (told_by self.new) }
     {
-        if self.turn.has_ended() {
+        if self.turn.is_done() {
             self.halt();
         }
     }
@@ -280,8 +315,11 @@ impl<'a, L: Ledger, T: Turn + Drop> Worker<'a, L, T> {
     // Sets the hart's halted bit, once.
     fn halt(&mut self)
         ensures common { self.new.common ≡ self.old.common }
+        ensures last { self.new.last ≡ self.old.last }
         ensures counts { counted_by self.new ≡ counted_by self.old }
         ensures length { (told_by self.new).longest ≡ (told_by self.old).longest }
+        ensures seen { (told_by self.new).bits_seen ≡ (told_by self.old).bits_seen }
+        ensures drawn { (told_by self.new).drawn ≡ (told_by self.old).drawn }
         ensures bit { (told_by self.new).halted ≡ true }
         ensures once { ((told_by self.old).halted ≡ true) → seat_of self.new.port ≡ seat_of self.old.port }
     {

@@ -13,6 +13,7 @@ ghost use Rattle.trace_text.specs.Scripts.{text};
 ghost use Rattle.trace_text.specs.TraceLimits.{IsTrace};
 ghost use Rattle.trace_text.specs.Traces.{text as trace_text};
 
+use crate::limits::LimitNote;
 use command_files::{
     Fault, Files, check_writable, image_in, named_config, out_of_limits, print_ends, remark,
     script_of, unmade,
@@ -70,8 +71,8 @@ impl<P: Progress> Gate for Watch<'_, P> {
 /// Judges the machine's size, reads the image, runs it, writes the journal, and then prints the trace on
 /// `out` and each hart's end on `err`. Where the journal is not written nothing is printed. A journal in no
 /// folder, or over the image's file or standard output by whatever name, is refused before the run, which can't be
-/// made again. That
-/// a limit ended the run before its harts is remarked. While it runs, `progress` is told how far it is.
+/// made again. Which
+/// limits ended the run before its harts is remarked. While it runs, `progress` is told how far it is.
 pub fn run_files<'a, R: Threads + Wait + Sync, F: Files, O: Write, E: Write, P: Progress + Sync>(
     rt: &R,
     alloc: Global,
@@ -119,8 +120,9 @@ pub fn run_files<'a, R: Threads + Wait + Sync, F: Files, O: Write, E: Write, P: 
         journal,
         receipts: _,
     } = report;
+    let changes = journal.len();
     let script = script_of(config, wanted.machine.memory, journal);
-    remark_unended(alloc, files, &trace, limit);
+    remark_unended(alloc, files, &trace, changes, limit);
     keep(alloc, files, wanted.journal, &script)?;
     print(&trace, out)?;
     // Standard error has no other place to tell that it takes no more.
@@ -188,22 +190,18 @@ fn spare_output<'a, F: Files>(
     Ok(())
 }
 
-/// Remarks that a limit ended the run before its harts, if one did.
-fn remark_unended<F: Files>(alloc: Global, files: &mut F, trace: &Trace, limit: u64)
+/// Remarks which limits ended the run before its harts, if any did: so many events changed the machine, and as many as
+/// the limit says were tried at most.
+fn remark_unended<F: Files>(alloc: Global, files: &mut F, trace: &Trace, changes: usize, limit: u64)
     ensures stays { F.held files.new ≡ F.held files.old }
 {
-    let unended = trace
-        .statuses()
-        .iter()
-        .position(|status| status.is_running());
-    if let Some(hart) = unended {
-        remark(
-            alloc,
-            files,
-            format_args!(
-                "hart {hart} hadn't ended when a limit was met: --limit, {limit} events tried, or the machine's own, 1000000 instructions of a hart and 4000000 events that change it"
-            ),
-        );
+    let note = LimitNote {
+        trace,
+        changes,
+        tries: limit,
+    };
+    if note.is_needed() {
+        remark(alloc, files, note);
     }
 }
 

@@ -16,5 +16,5 @@ returns-in-Ok-clause-row g c =
 pub returns-in-Ok-clause-came : goal.returns-in-Ok-clause-came
 returns-in-Ok-clause-came g c =
     let answers = c.commit.ensures.answers in
-    committed_seen c.in-Ok.batch c.commit.result (share_of c.args.self.now.port) (share_of c.commit.new.self) c.args.self.now.turn.hart c.args.self.now.hart c.commit.new.turn.seen c.args.self.now.own.1
-    (answers.0, answers.1, (answers.2.0, same_of answers.2.1 (λ turn. turn.seen)))
+    committed_seen c.in-Ok.batch c.commit.result (share_of c.args.self.now.port) (share_of c.commit.new.self) c.args.self.now.turn.hart c.args.self.now.hart c.commit.new.turn.seen c.commit.new.turn.is_spent c.args.self.now.own.1
+    (answers.0, answers.1, (answers.2.0, same_of answers.2.1 (λ turn. turn.seen), same_of answers.2.1 (λ turn. turn.is_spent)))

@@ -1,7 +1,9 @@
-use Rattle.std.proofs.Common.{◌≡◌, ◌∙◌, ap, false, not, refl, subst, sym, ℕ, None}
-use Rattle.std.specs.Prelude.{◌==◌}
+use Rattle.std.proofs.Common.{◌≡◌, ◌∙◌, ap, false, not, refl, subst, sym, true, ℕ, None}
+use Rattle.std.specs.Prelude.{◌==◌, OnErr}
+use Rattle.host_threads.proofs.Reasons.{fine, idle_reason, reason_of, run_out, uncounted, was_bad, was_spent}
 use Rattle.host_threads.proofs.Pace.{paced_back, paced_lent, paced_took}
-use Rattle.host_threads.proofs.Telling.{drawn_untold, held_counts, is_picked, lent_untold, refused_counts, reports, same_of, seat_untold, stopped, taken_counts, tells_then, unchanged, untold_then, went_on}
+use Rattle.host_threads.proofs.Telling.{drawn_untold, held_counts, is_picked, lent_untold, refused_counts, reports, same_of, seat_untold, taken_counts, tells_then, unchanged, untold_then}
+use Rattle.host_threads.specs.Endings.{fault_of}
 use Rattle.host_threads.specs.Telling.{CountsTo, Tells}
 use Rattle.locked_fabric.specs.Port.{Left, seat_of, seen_in, share_of}
 use Rattle.locked_fabric.specs.declared.taken.Taken.TheVariants.{Nothing, HeldBack, Tried}
@@ -37,8 +39,10 @@ go_alone-came-requires g c =
     let takes = took.2.4 in
     paced_back limit c.in-HeldBack.number took.2.0 took.0 (view c.halted.new.seat) (view (seat_of c.take.new.self)) (share_of c.args.self.now.port) (share_of c.take.new.self) takes.draws takes.leaves takes.counts paced
 
+-- ---- nothing was picked
+
 pub returns-in-Nothing-clause-goes : goal.returns-in-Nothing-clause-goes
-returns-in-Nothing-clause-goes g c =
+returns-in-Nothing-clause-goes g c = λ on.
     let took = c.in-Nothing.ensures.takes in
     let takes = took.2.4 in
     let count = share_of c.args.self.now.port in
@@ -47,13 +51,38 @@ returns-in-Nothing-clause-goes g c =
     (drawn_untold c.args.self.now.common.now.limit Nothing (view c.halted.new.seat) (view (seat_of c.take.new.self)) takes.draws) in
     let mine = takes.pick ∙ c.args.self.now.own.1 in
     let saw = same_of took.2.3 (λ turn. turn.seen) in
-    let same = held_counts took.2.0 took.0 count (share_of c.take.new.self) takes.leaves takes.counts in
-    λ _. (
+    let same = held_counts took.2.0 took.0 count (share_of c.take.new.self) takes.leaves takes.counts in (
       took.0,
       took.1,
-      reports c.args.self.now.hart took.2.2.hart count (share_of c.take.new.self) (share_of c.rest.new.self.port) false c.take.new.turn.seen (view (seat_of c.args.self.now.port)) (view (seat_of c.take.new.self)) (view (seat_of c.rest.new.self.port)) took.0
-          (taken_counts Nothing took.2.0 took.0 count (share_of c.take.new.self) takes.leaves takes.counts) c.rest.ensures.counts (unchanged count (share_of c.take.new.self) same) saw mine untold c.rest.ensures.tells,
+      reports c.args.self.now.hart took.2.2.hart count (share_of c.take.new.self) (share_of c.leave_out.new.self.port) false c.take.new.turn.seen (view (seat_of c.args.self.now.port)) (view (seat_of c.take.new.self)) (view (seat_of c.leave_out.new.self.port)) took.0
+          (taken_counts Nothing took.2.0 took.0 count (share_of c.take.new.self) takes.leaves takes.counts) c.leave_out.ensures.counts (unchanged count (share_of c.take.new.self) same) saw mine untold (c.leave_out.ensures.tells on),
     )
+
+pub returns-in-Nothing-clause-ends : goal.returns-in-Nothing-clause-ends
+returns-in-Nothing-clause-ends g c = λ off.
+    let took = c.in-Nothing.ensures.takes in
+    let takes = took.2.4 in
+    let first = view (seat_of c.args.self.now.port) in
+    let drawn = view (seat_of c.take.new.self) in
+    let untold = untold_then first (view c.halted.new.seat) drawn
+    (lent_untold c.seat.result.now (seat_of c.args.self.now.port) c.halted.new.seat c.halted.result c.seat.ensures.now c.halted.ensures.seen)
+    (drawn_untold c.args.self.now.common.now.limit Nothing (view c.halted.new.seat) drawn takes.draws) in (
+      c.leave_out.ensures.counts ∙ held_counts took.2.0 took.0 (share_of c.args.self.now.port) (share_of c.take.new.self) takes.leaves takes.counts,
+      tells_then false None first drawn (view (seat_of c.leave_out.new.self.port)) untold (c.leave_out.ensures.silent off),
+    )
+
+pub returns-in-Nothing-clause-reason : goal.returns-in-Nothing-clause-reason
+returns-in-Nothing-clause-reason g c =
+    let took = c.in-Nothing.ensures.takes in
+    idle_reason c.args.self.now.common.now (view (seat_of c.leave_out.new.self.port)) c.take.new.turn.is_spent c.leave_out.result c.leave_out.ensures.ends
+    (was_spent took.0 c.take.new.turn.is_spent took.1 (same_of took.2.3 (λ turn. turn.is_spent)))
+
+-- ---- no number was left
+
+pub returns-in-Over-clause-reason : goal.returns-in-Over-clause-reason
+returns-in-Over-clause-reason g c = run_out c.args.self.now.common.now.limit (view c.halted.new.seat) (view (seat_of c.take.new.self)) c.in-Over.ensures.takes.2.4.draws
+
+-- ---- it was held back
 
 pub returns-in-HeldBack-clause-goes : goal.returns-in-HeldBack-clause-goes
 returns-in-HeldBack-clause-goes g c = λ on.
@@ -66,18 +95,45 @@ returns-in-HeldBack-clause-goes g c = λ on.
     (lent_untold c.seat.result.now (seat_of c.args.self.now.port) c.halted.new.seat c.halted.result c.seat.ensures.now c.halted.ensures.seen)
     (drawn_untold c.args.self.now.common.now.limit (HeldBack c.in-HeldBack.number c.in-HeldBack.event) (view c.halted.new.seat) drawn takes.draws) in
     let same = held_counts took.2.0 took.0 count (share_of c.take.new.self) takes.leaves takes.counts in
-    let port = c.go_alone-came.new.self.port in
-    let seen = c.go_alone-came.new.self.turn.seen in
-    let back = untold_then first drawn (view (seat_of port)) untold (seat_untold (seat_of c.take.new.self) (seat_of port) c.go_alone-came.ensures.seat) in
-    let changed = not (share_of port == c.counted-before.result) in
+    let alone = c.go_alone-came.new.self in
+    let back = untold_then first drawn (view (seat_of alone.port)) untold (seat_untold (seat_of c.take.new.self) (seat_of alone.port) c.go_alone-came.ensures.seat) in
+    let changed = not (share_of alone.port == c.counted-before.result) in
     let last = view (seat_of c.go_on.new.self.port) in
-    let left = went_on (Left (λ left. CountsTo (share_of c.take.new.self) (share_of port) left × (seen ≡ seen_in left.machine.trace c.args.self.now.hart))) c.go_alone-came.result c.go_on.result c.go_on.ensures.goes c.go_alone-came.ensures.came on in
-    let tells = went_on (Tells changed seen (view (seat_of port)) last) c.go_alone-came.result c.go_on.result c.go_on.ensures.goes c.go_on.ensures.tells on in (
+    let left = c.go_alone-came.ensures.came (fine (fault_of c.go_alone-came.result) _ _ c.go_on.result c.go_on.ensures.ends on) in (
       left.0,
       left.1,
-      reports c.args.self.now.hart c.args.self.now.hart count (share_of port) (share_of c.go_on.new.self.port) changed seen first (view (seat_of port)) last left.0
-          (subst (λ (n : ℕ). CountsTo n (share_of port) left.0) same left.2.0) c.go_on.ensures.counts (ap (λ (n : ℕ). not (share_of port == n)) c.counted-before.ensures) left.2.1 refl back tells,
+      reports c.args.self.now.hart c.args.self.now.hart count (share_of alone.port) (share_of c.go_on.new.self.port) changed alone.turn.seen first (view (seat_of alone.port)) last left.0
+          (subst (λ (n : ℕ). CountsTo n (share_of alone.port) left.0) same left.2.0) c.go_on.ensures.counts (ap (λ (n : ℕ). not (share_of alone.port == n)) c.counted-before.ensures) left.2.1 refl back (c.go_on.ensures.tells on),
     )
+
+pub returns-in-HeldBack-clause-ends : goal.returns-in-HeldBack-clause-ends
+returns-in-HeldBack-clause-ends g c = λ off.
+    let took = c.in-HeldBack.ensures.takes in
+    let takes = took.2.4 in
+    let count = share_of c.args.self.now.port in
+    let first = view (seat_of c.args.self.now.port) in
+    let drawn = view (seat_of c.take.new.self) in
+    let untold = untold_then first (view c.halted.new.seat) drawn
+    (lent_untold c.seat.result.now (seat_of c.args.self.now.port) c.halted.new.seat c.halted.result c.seat.ensures.now c.halted.ensures.seen)
+    (drawn_untold c.args.self.now.common.now.limit (HeldBack c.in-HeldBack.number c.in-HeldBack.event) (view c.halted.new.seat) drawn takes.draws) in
+    let same = held_counts took.2.0 took.0 count (share_of c.take.new.self) takes.leaves takes.counts in
+    let port = c.go_alone-came.new.self.port in
+    let back = untold_then first drawn (view (seat_of port)) untold (seat_untold (seat_of c.take.new.self) (seat_of port) c.go_alone-came.ensures.seat) in (
+      c.go_on.ensures.counts
+          ∙ (uncounted c.go_alone-came.result c.counted-before.result (share_of port) _ c.go_on.result c.go_on.ensures.ends off
+          (subst (λ (n : ℕ). OnErr c.go_alone-came.result (share_of port ≡ n)) (same ∙ sym c.counted-before.ensures) c.go_alone-came.ensures.err)
+          ∙ c.counted-before.ensures),
+      tells_then false None first (view (seat_of port)) (view (seat_of c.go_on.new.self.port)) back (c.go_on.ensures.silent off),
+    )
+
+pub returns-in-HeldBack-clause-reason : goal.returns-in-HeldBack-clause-reason
+returns-in-HeldBack-clause-reason g c =
+    let came = c.go_alone-came in
+    let spent = came.new.self.turn.is_spent in
+    reason_of c.args.self.now.common.now (view (seat_of c.go_on.new.self.port)) came.result _ spent c.go_on.result c.go_on.ensures.ends
+    (λ on. let left = came.ensures.came on in was_spent left.0 spent left.1 left.2.2) came.ensures.bad
+
+-- ---- it was tried
 
 pub returns-in-Tried-clause-goes : goal.returns-in-Tried-clause-goes
 returns-in-Tried-clause-goes g c = λ on.
@@ -93,12 +149,11 @@ returns-in-Tried-clause-goes g c = λ on.
     let saw = same_of took.2.3 (λ turn. turn.seen) in
     let counted = share_of c.take.new.self in
     let changed = not (counted == c.counted-before.result) in
-    let last = view (seat_of c.go_on-in-Tried.new.self.port) in
-    let tells = went_on (Tells changed c.take.new.turn.seen drawn last) c.in-Tried.came c.go_on-in-Tried.result c.go_on-in-Tried.ensures.goes c.go_on-in-Tried.ensures.tells on in (
+    let last = view (seat_of c.go_on-in-Tried.new.self.port) in (
       took.0,
       took.1,
       reports c.args.self.now.hart took.2.2.hart count counted (share_of c.go_on-in-Tried.new.self.port) changed c.take.new.turn.seen first drawn last took.0
-          (taken_counts (Tried c.in-Tried.number c.in-Tried.event c.in-Tried.came) took.2.0 took.0 count counted takes.leaves takes.counts) c.go_on-in-Tried.ensures.counts (ap (λ (n : ℕ). not (counted == n)) c.counted-before.ensures) saw mine untold tells,
+          (taken_counts (Tried c.in-Tried.number c.in-Tried.event c.in-Tried.came) took.2.0 took.0 count counted takes.leaves takes.counts) c.go_on-in-Tried.ensures.counts (ap (λ (n : ℕ). not (counted == n)) c.counted-before.ensures) saw mine untold (c.go_on-in-Tried.ensures.tells on),
     )
 
 pub returns-in-Tried-clause-ends : goal.returns-in-Tried-clause-ends
@@ -111,26 +166,18 @@ returns-in-Tried-clause-ends g c = λ off.
     let untold = untold_then first (view c.halted.new.seat) drawn
     (lent_untold c.seat.result.now (seat_of c.args.self.now.port) c.halted.new.seat c.halted.result c.seat.ensures.now c.halted.ensures.seen)
     (drawn_untold c.args.self.now.common.now.limit (Tried c.in-Tried.number c.in-Tried.event c.in-Tried.came) (view c.halted.new.seat) drawn takes.draws) in
-    let counted = share_of c.take.new.self in
-    let last = view (seat_of c.go_on-in-Tried.new.self.port) in (
-      c.go_on-in-Tried.ensures.counts ∙ stopped (counted ≡ count) c.in-Tried.came c.go_on-in-Tried.result c.go_on-in-Tried.ensures.goes (refused_counts c.in-Tried.event c.in-Tried.came took.2.0 took.0 count counted takes.leaves takes.counts) off,
-      tells_then false None first drawn last untold (stopped (Tells false None drawn last) c.in-Tried.came c.go_on-in-Tried.result c.go_on-in-Tried.ensures.goes c.go_on-in-Tried.ensures.silent off),
+    let counted = share_of c.take.new.self in (
+      c.go_on-in-Tried.ensures.counts
+          ∙ (uncounted c.in-Tried.came c.counted-before.result counted _ c.go_on-in-Tried.result c.go_on-in-Tried.ensures.ends off
+          (subst (λ (n : ℕ). OnErr c.in-Tried.came (counted ≡ n)) (sym c.counted-before.ensures) (refused_counts c.in-Tried.event c.in-Tried.came took.2.0 took.0 count counted takes.leaves takes.counts))
+          ∙ c.counted-before.ensures),
+      tells_then false None first drawn (view (seat_of c.go_on-in-Tried.new.self.port)) untold (c.go_on-in-Tried.ensures.silent off),
     )
 
-pub returns-in-HeldBack-clause-ends : goal.returns-in-HeldBack-clause-ends
-returns-in-HeldBack-clause-ends g c = λ off.
-    let took = c.in-HeldBack.ensures.takes in
-    let takes = took.2.4 in
-    let count = share_of c.args.self.now.port in
-    let first = view (seat_of c.args.self.now.port) in
-    let drawn = view (seat_of c.take.new.self) in
-    let untold = untold_then first (view c.halted.new.seat) drawn
-    (lent_untold c.seat.result.now (seat_of c.args.self.now.port) c.halted.new.seat c.halted.result c.seat.ensures.now c.halted.ensures.seen)
-    (drawn_untold c.args.self.now.common.now.limit (HeldBack c.in-HeldBack.number c.in-HeldBack.event) (view c.halted.new.seat) drawn takes.draws) in
-    let same = held_counts took.2.0 took.0 count (share_of c.take.new.self) takes.leaves takes.counts in
-    let port = c.go_alone-came.new.self.port in
-    let back = untold_then first drawn (view (seat_of port)) untold (seat_untold (seat_of c.take.new.self) (seat_of port) c.go_alone-came.ensures.seat) in
-    let last = view (seat_of c.go_on.new.self.port) in (
-      c.go_on.ensures.counts ∙ (stopped (share_of port ≡ share_of c.take.new.self) c.go_alone-came.result c.go_on.result c.go_on.ensures.goes c.go_alone-came.ensures.err off ∙ same),
-      tells_then false None first (view (seat_of port)) last back (stopped (Tells false None (view (seat_of port)) last) c.go_alone-came.result c.go_on.result c.go_on.ensures.goes c.go_on.ensures.silent off),
-    )
+pub returns-in-Tried-clause-reason : goal.returns-in-Tried-clause-reason
+returns-in-Tried-clause-reason g c =
+    let took = c.in-Tried.ensures.takes in
+    let spent = c.take.new.turn.is_spent in
+    reason_of c.args.self.now.common.now (view (seat_of c.go_on-in-Tried.new.self.port)) c.in-Tried.came _ spent c.go_on-in-Tried.result c.go_on-in-Tried.ensures.ends
+    (λ fault. was_spent took.0 spent took.1 (same_of took.2.3 (λ turn. turn.is_spent)))
+    (was_bad c.in-Tried.event c.in-Tried.came took.2.0 took.0 took.2.1 took.2.4.leaves)
