@@ -1,6 +1,7 @@
 pub mod Closing
 pub mod Covering
 pub mod Ending
+pub mod Forgetting
 pub mod Guessing
 pub mod Leaving
 pub mod Lessening
