@@ -7,8 +7,6 @@ use Rattle.std.proofs.Math.Path.{fun_ext}
 use Rattle.std.proofs.lemmas.Bool.{false≢true, and_from, and_parts, eq-eqb, eqb-true, le-leb, lt-ltb, or_right}
 use Rattle.std.proofs.lemmas.List.{length-append, take-append-le}
 use Rattle.std.proofs.lemmas.Option.{slice_get_within}
-use Rattle.elf_loader.specs.Image.{Initial}
-use Rattle.hart.specs.declared.retired.Retired.{Retired}
 use Rattle.machine_types.specs.declared.model.MemoryModel.{MemoryModel}
 use Rattle.memory_model.specs.declared.operation.Operation.{Operation}
 use Rattle.memory_model.specs.Dependencies.{uses_in}
@@ -17,12 +15,12 @@ use Rattle.memory_model.specs.Rules.{is_lr_or_sc}
 use Rattle.rv32_decode.specs.Rows.{decoded}
 use Rattle.rv32_decode.specs.declared.instruction.Instr.{Instr}
 use Rattle.rv32_exec.specs.Uses.{Uses}
-use Rattle.window_model.specs.Fetching.{CanFetch, fetched, must_precede, operation_of, reservation_behind, reserves, waiting_with, window_behind}
+use Rattle.window_model.specs.Fetching.{fetched, must_precede, operation_of, reservation_behind, reserves, waiting_with, window_behind}
 use Rattle.window_model.specs.Laws.{IsBelow, IsWithin, StoresComeFirst}
 use Rattle.window_model.specs.Nodes.{Node, Reserved, address_of, lr_of, own_of}
 use Rattle.window_model.specs.Placing.{Admits, beside, ends, has_store, kept_beside}
 use Rattle.window_model.specs.Reserving.{is_reserved, may_do}
-use Rattle.window_model.specs.Waiting.{Waiting, overlaps, stores_to, touches}
+use Rattle.window_model.specs.Waiting.{Waiting, overlaps, stores_to}
 use Rattle.window_model.specs.Waits.{Waits, has_any, of_registers, only, those, when, ◌∪◌}
 use Rattle.window_model.proofs.Positions.{at_append, at_end}
 use Rattle.window_model.proofs.Waits.{has_any_at, has_any_none}

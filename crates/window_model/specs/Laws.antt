@@ -1,5 +1,5 @@
 -- Laws of the bare window machine: of all its paths, and of harts that fetch a whole list.
-use Rattle.std.specs.Prelude.{ℕ, ◌≡◌, ◌<◌, ◌||◌, Bool, true, List, [], ◌∷◌, None, Some, length, slice_get}
+use Rattle.std.specs.Prelude.{ℕ, ◌≡◌, ◌<◌, ◌||◌, Bool, true, List, None, Some, length, slice_get}
 use Rattle.std.specs.List.{filter_map}
 use Rattle.elf_loader.specs.Image.{Initial}
 use Rattle.hart.specs.declared.retired.Retired.{Retired}

@@ -1,6 +1,5 @@
 -- What a load may read when it is fetched, before it is known when it will be placed: the bytes of a memory that was seen, under some of its hart's stores that wait.
 use Rattle.std.specs.Prelude.{ℕ, ◌≡◌, ◌⊎◌, Bool, true, List, [], ◌∷◌, Some, slice_get, take}
-use Rattle.elf_loader.specs.Image.{Initial}
 use Rattle.hart.specs.declared.retired.Retired.{Retired}
 use Rattle.machine_types.specs.declared.model.MemoryModel.{MemoryModel}
 use Rattle.memory_model.specs.declared.operation.Operation.{Operation}
