@@ -8,6 +8,7 @@ use Rattle.memory_model.specs.Operations.{reads}
 use Rattle.window_model.specs.Fetching.{fetched, operation_of}
 use Rattle.window_model.specs.Nodes.{Node}
 use Rattle.window_model.specs.Placing.{byte_seen}
+use Rattle.window_model.specs.Systems.{System}
 use Rattle.window_model.specs.Waiting.{Waiting, read_at, touches}
 
 -- some elements of a list, in its order
@@ -36,3 +37,7 @@ GuessEach model seen n (entry ∷ rest) = GuessesAt seen n entry × GuessEach mo
 -- each load that waits would read what it has guessed, if it were placed now, whatever it waits for
 pub record IsFulfilled (memory : ℕ → ℕ) (n : Node) : Type 0 where
   pub value : (k : ℕ) (w : Waiting) → slice_get n.window k ≡ Some w → reads w.kind ≡ true → (x : ℕ) → touches x w ≡ true → read_at w x ≡ byte_seen memory (take k n.window) x
+
+-- at each hart
+abbrev pub AreFulfilled : System → Type 0
+AreFulfilled s = (h : ℕ) (n : Node) → slice_get s.nodes h ≡ Some n → IsFulfilled s.memory n
