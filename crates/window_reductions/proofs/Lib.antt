@@ -6,6 +6,7 @@ pub mod Guessing
 pub mod Leaving
 pub mod Lessening
 pub mod Onward
+pub mod Over
 pub mod Shrinking
 pub mod Simulations
 pub mod Stopping
