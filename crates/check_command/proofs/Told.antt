@@ -13,7 +13,7 @@ use Rattle.trace_recorder.specs.History.{History}
 use Rattle.trace_text.specs.TraceLimits.{IsTrace}
 use Rattle.trace_text.specs.Traces.{text}
 use Rattle.command_files.specs.declared.fault.Fault.{Fault}
-use Rattle.command_files.specs.declared.fault.Fault.TheVariants.{BadAddress, BadEvent, BytesAfterTrace, CannotMake, CannotRead, CannotShow, CannotWrite, Check, Configuration, Event, Image, Mismatch, NoThread, NothingHappens, OutOfMemory, Text, TooManyRows}
+use Rattle.command_files.specs.declared.fault.Fault.TheVariants.{BadAddress, BadEvent, BytesAfterTrace, CannotMake, CannotRead, CannotShow, CannotWrite, Check, Configuration, Event, Image, Mismatch, NoThread, NothingHappens, OtherImage, OutOfMemory, Text, TooManyRows}
 
 pub of_trace : (held : Contents) (name : Name) (fault : Fault) → IsTextFault held name fault → IsCheckFault held name fault
 of_trace held name (CannotRead file) is = is
@@ -26,6 +26,7 @@ of_trace held name (Event file line error) is = absurd is
 of_trace held name (BytesAfterTrace file) is = absurd is
 of_trace held name (NothingHappens file line outcome) is = absurd is
 of_trace held name (Check file error) is = absurd is
+of_trace held name (OtherImage file address) is = absurd is
 of_trace held name (TooManyRows file) is = absurd is
 of_trace held name (BadAddress word) is = absurd is
 of_trace held name (CannotShow word cause) is = absurd is
@@ -45,6 +46,7 @@ of_log held name (Event file line error) is = absurd is
 of_log held name (BytesAfterTrace file) is = absurd is
 of_log held name (NothingHappens file line outcome) is = absurd is
 of_log held name (Check file error) is = absurd is
+of_log held name (OtherImage file address) is = absurd is
 of_log held name (TooManyRows file) is = absurd is
 of_log held name (BadAddress word) is = absurd is
 of_log held name (CannotShow word cause) is = absurd is

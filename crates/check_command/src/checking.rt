@@ -90,7 +90,7 @@ fn states_no_order(alloc: Global, trace: &Trace) -> bool {
 }
 
 /// Remarks why a trace isn't judged.
-fn remark_unjudged<F: Files>(alloc: Global, files: &mut F, trace: &Trace, error: CheckError)
+pub fn remark_unjudged<F: Files>(alloc: Global, files: &mut F, trace: &Trace, error: CheckError)
     ensures { F.held files.new ≡ F.held files.old }
 {
     match error {

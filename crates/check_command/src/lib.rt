@@ -5,5 +5,6 @@ mod checking;
 mod messages;
 mod reading;
 
-pub use checking::check_file;
+pub use checking::{check_file, remark_unjudged};
 pub use messages::check_messages;
+pub use reading::whole_trace;

@@ -12,7 +12,7 @@ use trace_recorder::Trace;
 use trace_text::{TextCode, read_trace};
 
 /// The trace whose text these bytes of the file are. Where they are none, what is wrong is remarked.
-pub(crate) fn whole_trace<'a, F: Files>(
+pub fn whole_trace<'a, F: Files>(
     alloc: Global,
     files: &mut F,
     file: &'a str,

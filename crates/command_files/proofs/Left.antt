@@ -5,7 +5,7 @@ use Rattle.command_files.specs.Status.{status_of}
 use Rattle.command_files.specs.Faults.{IsImageFault, IsReadFault, IsScriptFault, LeavesAtFault, Name}
 use Rattle.command_files.specs.declared.fault.Fault.{Fault}
 use Rattle.command_files.specs.declared.fault.Unshown.{Unshown}
-use Rattle.command_files.specs.declared.fault.Fault.TheVariants.{BadAddress, BadEvent, BytesAfterTrace, CannotMake, CannotRead, CannotShow, CannotWrite, Check, Configuration, Event, Image, Mismatch, NoThread, NothingHappens, OutOfMemory, Text, TooManyRows}
+use Rattle.command_files.specs.declared.fault.Fault.TheVariants.{BadAddress, BadEvent, BytesAfterTrace, CannotMake, CannotRead, CannotShow, CannotWrite, Check, Configuration, Event, Image, Mismatch, NoThread, NothingHappens, OtherImage, OutOfMemory, Text, TooManyRows}
 
 module _ (old new : Option (List ℕ)) (broken : Type 0) where
   -- any fault but the output's leaves it as it was
@@ -20,6 +20,7 @@ module _ (old new : Option (List ℕ)) (broken : Type 0) where
   left (BytesAfterTrace file) other same = same
   left (NothingHappens file line outcome) other same = same
   left (Check file error) other same = same
+  left (OtherImage file address) other same = same
   left (TooManyRows file) other same = same
   left (BadAddress word) other same = same
   left (CannotShow word cause) other same = same
@@ -45,6 +46,7 @@ module _ (old new : Option (List ℕ)) (broken : Type 0) where
   either (BytesAfterTrace file) so = inl so
   either (NothingHappens file line outcome) so = inl so
   either (Check file error) so = inl so
+  either (OtherImage file address) so = inl so
   either (TooManyRows file) so = inl so
   either (BadAddress word) so = inl so
   either (CannotShow word cause) so = inl so
@@ -82,6 +84,7 @@ only_configuration (Event file line error) named shown two = cc
 only_configuration (BytesAfterTrace file) named shown two = cc
 only_configuration (NothingHappens file line outcome) named shown two = cc
 only_configuration (Check file error) named shown two = cc
+only_configuration (OtherImage file address) named shown two = cc
 only_configuration (TooManyRows file) named shown two = cc
 only_configuration (BadAddress word) named shown two = absurd (named word refl)
 only_configuration (CannotShow word cause) named shown two = absurd (shown word cause refl)

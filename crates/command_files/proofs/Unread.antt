@@ -5,7 +5,7 @@ use Rattle.command_files.specs.Faults.{IsImageFault, IsLoadFault, Name}
 use Rattle.command_files.specs.Files.{image_answer}
 use Rattle.command_files.specs.Contents.{Contents, HoldsBytes}
 use Rattle.command_files.specs.declared.fault.Fault.{Fault}
-use Rattle.command_files.specs.declared.fault.Fault.TheVariants.{BadAddress, BadEvent, BytesAfterTrace, CannotMake, CannotRead, CannotShow, CannotWrite, Check, Configuration, Event, Image, Mismatch, NoThread, NothingHappens, OutOfMemory, Text, TooManyRows}
+use Rattle.command_files.specs.declared.fault.Fault.TheVariants.{BadAddress, BadEvent, BytesAfterTrace, CannotMake, CannotRead, CannotShow, CannotWrite, Check, Configuration, Event, Image, Mismatch, NoThread, NothingHappens, OtherImage, OutOfMemory, Text, TooManyRows}
 use Rattle.elf_loader.specs.declared.error.LoadError.{LoadError}
 use Rattle.elf_loader.specs.declared.error.LoadError.TheVariants as loading
 
@@ -41,6 +41,7 @@ of_bytes held is_raw name kib bytes (Event file line error) holds is = absurd is
 of_bytes held is_raw name kib bytes (NothingHappens file line outcome) holds is = absurd is
 of_bytes held is_raw name kib bytes (BytesAfterTrace file) holds is = absurd is
 of_bytes held is_raw name kib bytes (Check file error) holds is = absurd is
+of_bytes held is_raw name kib bytes (OtherImage file address) holds is = absurd is
 of_bytes held is_raw name kib bytes (TooManyRows file) holds is = absurd is
 of_bytes held is_raw name kib bytes (BadAddress word) holds is = absurd is
 of_bytes held is_raw name kib bytes (CannotShow word cause) holds is = absurd is

@@ -5,7 +5,7 @@ use Rattle.std.specs.IoError.{error_kind}
 use Rattle.std.specs.declared.io.ErrorKind.TheVariants as io
 use Rattle.command_files.specs.declared.fault.Fault.{Fault}
 use Rattle.command_files.specs.declared.fault.Fault.TheVariants as fault
-use Rattle.command_files.specs.declared.fault.Fault.TheVariants.{BadAddress, BytesAfterTrace, CannotMake, CannotRead, CannotShow, CannotWrite, Check, Configuration, Event, Image, NoThread, NothingHappens, OutOfMemory, Text, TooManyRows}
+use Rattle.command_files.specs.declared.fault.Fault.TheVariants.{BadAddress, BytesAfterTrace, CannotMake, CannotRead, CannotShow, CannotWrite, Check, Configuration, Event, Image, NoThread, NothingHappens, OtherImage, OutOfMemory, Text, TooManyRows}
 use Rattle.command_files.specs.declared.fault.Unshown.{Unshown}
 use Rattle.command_files.specs.declared.fault.Unshown.TheVariants.{Elsewhere, NoSymbol, NoWord}
 use Rattle.coherent_machine.specs.declared.errors.ReplayError.{ReplayError}
@@ -32,6 +32,7 @@ status_of (Event file line error) = 1
 status_of (NothingHappens file line outcome) = 1
 status_of (BytesAfterTrace file) = 1
 status_of (Check file error) = 1
+status_of (OtherImage file address) = 1
 status_of (TooManyRows file) = 1
 status_of NoThread = 1
 status_of fault.Mismatch = 1

@@ -76,6 +76,12 @@ pub enum Fault<'a> {
         file: &'a str,
         error: CheckError,
     },
+    /// The words in which the trace of this file begins aren't the image's: the first that differs is at this address.
+    #[error("rvtl: {}: the trace of another image: the word at {:#010x} differs", Escaped(*.file), .address)]
+    OtherImage {
+        file: &'a str,
+        address: u32,
+    },
     /// A picture would have more than 400 rows or bars, or more than 65,535 lines of text.
     #[error("rvtl: {}: too much to draw (400 rows, or 65535 lines of text, at most): choose less by --line, or by a shorter script", Escaped(*.file))]
     TooManyRows {
@@ -124,6 +130,7 @@ impl Fault<'_> {
             | Fault::NothingHappens { .. }
             | Fault::BytesAfterTrace { .. }
             | Fault::Check { .. }
+            | Fault::OtherImage { .. }
             | Fault::TooManyRows { .. }
             | Fault::NoThread
             | Fault::Mismatch

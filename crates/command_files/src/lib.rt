@@ -18,6 +18,8 @@ pub use fault::{Fault, Unshown};
 pub use files::Files;
 pub use input::{Source, WithInput};
 pub use machines::{config_of, named_config, script_of};
-pub use reading::{check_writable, contents, image_in, image_of, script_in, text_in, unmade};
+pub use reading::{
+    check_writable, contents, image_in, image_of, script_from, script_in, text_in, unmade,
+};
 pub use remarked::{Remarked, out_of_limits, remark, remark_outside, remark_refused};
 pub use system::SystemFiles;

@@ -181,7 +181,23 @@ pub fn script_in<'a, F: Files>(
     ensures stays { F.held files.new ≡ F.held files.old }
 {
     let bytes = text_in(alloc, files, name)?;
-    match read_script(alloc, bytes.as_slice()) {
+    script_from(alloc, files, name, bytes.as_slice())
+}
+
+/// The script whose text these bytes of the file are. Where they are none, what is wrong with the line is remarked.
+pub fn script_from<'a, F: Files>(
+    alloc: Global,
+    files: &mut F,
+    name: &'a str,
+    bytes: &[u8],
+) -> Result<Script, Fault<'a>>
+    requires { HoldsBytes (F.held files.old) name.now bytes.now }
+    ensures fault { IfErr result (IsScriptFault (F.held files.old) name.entry) }
+    ensures script { IfOk result (HoldsScript (F.held files.old) name.entry.now) }
+    ensures only { IfOk result (IsTheScriptIn (F.held files.old) name.entry.now) }
+    ensures stays { F.held files.new ≡ F.held files.old }
+{
+    match read_script(alloc, bytes) {
         Ok(script) => Ok(script),
         Err(error) => {
             if let Some(why) = ScriptNote::of(error) {

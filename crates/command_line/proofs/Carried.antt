@@ -15,16 +15,16 @@ use Rattle.command_settings.specs.declared.wanted.Show.{Show as Shown}
 use Rattle.command_settings.specs.declared.wanted.Settings.TheVariants.{Check, Explain, Explore, Show}
 use Rattle.event_stream.specs.declared.strictness.Strictness.{Strictness}
 use Rattle.command_line.specs.Telling.{ComesBeforeFiles, IsFaultOfCommand, IsShowingFault}
-use Rattle.script_commands.specs.Explaining.{IsExplainFault, IsExplained}
+use Rattle.trace_commands.specs.Kinds.{IsTellingFault, IsTold}
 use Rattle.explore_command.specs.Exploring.{IsExploreFault, LeavesPart}
 use Rattle.explore_command.specs.Keeping.{SparesOthers}
 use Rattle.explore_command.specs.declared.judging.Judgement.{Judgement}
 use Rattle.explore_command.specs.declared.judging.Judgement.TheVariants.{Allowed, NotAllowed}
 
 pub explained : (held left : Contents) (old new : Option (List ℕ)) (wanted : Settings) (explain : Telling) (strictness : Strictness) → wanted ≡ Explain explain → strictness ≡ strictness_of explain.strict
-    → IsExplained held explain.replay strictness explain.state old new → IsDone held left old new wanted
+    → IsTold held explain.replay strictness explain.state old new → IsDone held left old new wanted
 explained held left old new wanted explain strictness is is_strict told =
-    subst (IsDone held left old new) (sym is) (subst (λ s. IsExplained held explain.replay s explain.state old new) is_strict told)
+    subst (IsDone held left old new) (sym is) (subst (λ s. IsTold held explain.replay s explain.state old new) is_strict told)
 
 module _ (held left : Contents) (old new : Option (List ℕ)) (wanted : Settings) where
   pub explore_came : (explore : Sought) (r : Result Judgement Fault) → wanted ≡ Explore explore
@@ -68,8 +68,8 @@ all_told_of held old new wanted meant (Ok judgement) is so = tt
 all_told_of held old new wanted meant (Err fault) is so = told_of held old new wanted meant fault is so
 
 pub explain_told : (held : Contents) (old new : Option (List ℕ)) (explain : Telling) (strictness : Strictness) (fault : Fault) → strictness ≡ strictness_of explain.strict
-    → IsExplainFault held explain.replay strictness old new fault → IsExplainFault held explain.replay (strictness_of explain.strict) old new fault
-explain_told held old new explain strictness fault is_strict so = subst (λ s. IsExplainFault held explain.replay s old new fault) is_strict so
+    → IsTellingFault held explain.replay strictness old new fault → IsTellingFault held explain.replay (strictness_of explain.strict) old new fault
+explain_told held old new explain strictness fault is_strict so = subst (λ s. IsTellingFault held explain.replay s old new fault) is_strict so
 
 pub explore_beyond : (held : Contents) (old new : Option (List ℕ)) (wanted : Settings) (explore : Sought) (Has : (List ℕ → Type 0) → Type 0) (r : Result Judgement Fault) → wanted ≡ Explore explore → IfErr r (IsExploreFault held explore)
     → IfErr r (λ fault. LeavesPart fault old new Has) → IfErr r (λ fault. status_of fault ≡ 2 → IsOutOfRange wanted × (new ≡ old))

@@ -22,7 +22,8 @@ use Rattle.command_settings.specs.declared.wanted.Settings.{Settings}
 use Rattle.command_settings.specs.declared.wanted.Settings.TheVariants.{Chart, Check, Explain, Explore, Replay, Run, Show}
 use Rattle.command_settings.specs.declared.wanted.Show.{Show as Shown}
 use Rattle.event_stream.specs.declared.strictness.Strictness.{Strictness}
-use Rattle.script_commands.specs.Explaining.{IsStreamCutOff, LeavesOfStream}
+use Rattle.script_commands.specs.Explaining.{LeavesOfStream}
+use Rattle.trace_commands.specs.Kinds.{IsHalfTold}
 use Rattle.explore_command.proofs.Explored.{all_of}
 use Rattle.explore_command.proofs.Faults.{some_part}
 use Rattle.explore_command.specs.declared.judging.Judgement.{Judgement}
@@ -32,9 +33,9 @@ use Rattle.text_fields.specs.Writing.{Begins}
 -- ---- what is left
 
 pub stream_left : (held : Contents) (old new : Option (List ℕ)) (explain : Telling) (strictness : Strictness) (fault : Fault) → strictness ≡ strictness_of explain.strict
-    → LeavesOfStream fault old new (IsStreamCutOff held explain.replay strictness explain.state old new)
-    → LeavesOfStream fault old new (IsStreamCutOff held explain.replay (strictness_of explain.strict) explain.state old new)
-stream_left held old new explain strictness fault is so = subst (λ s. LeavesOfStream fault old new (IsStreamCutOff held explain.replay s explain.state old new)) is so
+    → LeavesOfStream fault old new (IsHalfTold held explain.replay strictness explain.state old new)
+    → LeavesOfStream fault old new (IsHalfTold held explain.replay (strictness_of explain.strict) explain.state old new)
+stream_left held old new explain strictness fault is so = subst (λ s. LeavesOfStream fault old new (IsHalfTold held explain.replay s explain.state old new)) is so
 
 module _ (held left : Contents) (old new : Option (List ℕ)) where
   pub left_of : (wanted meant : Settings) (fault : Fault) → wanted ≡ meant → LeavesOf held left old new meant fault → LeavesOf held left old new wanted fault

@@ -13,7 +13,7 @@ use Rattle.command_files.specs.Contents.{Contents}
 use Rattle.command_files.specs.Sizes.{IsOutside}
 use Rattle.command_files.specs.Status.{status_of}
 use Rattle.command_files.specs.declared.fault.Fault.{Fault}
-use Rattle.command_files.specs.declared.fault.Fault.TheVariants.{BadAddress, BadEvent, BytesAfterTrace, CannotMake, CannotRead, CannotShow, CannotWrite, Check as NoOrder, Configuration, Event, Image, Mismatch, NoThread, NothingHappens, OutOfMemory, Text as NoText, TooManyRows}
+use Rattle.command_files.specs.declared.fault.Fault.TheVariants.{BadAddress, BadEvent, BytesAfterTrace, CannotMake, CannotRead, CannotShow, CannotWrite, Check as NoOrder, Configuration, Event, Image, Mismatch, NoThread, NothingHappens, OtherImage, OutOfMemory, Text as NoText, TooManyRows}
 use Rattle.command_files.specs.declared.fault.Unshown.{Unshown}
 use Rattle.command_line.specs.Running.{MeetsSomeState, ShowsElsewhere}
 use Rattle.command_line.specs.Telling.{ComesBeforeFiles, IsShowingFault}
@@ -105,6 +105,7 @@ misused_so P size address shown (Event file line error) two = cc
 misused_so P size address shown (BytesAfterTrace file) two = cc
 misused_so P size address shown (NothingHappens file line outcome) two = cc
 misused_so P size address shown (NoOrder file error) two = cc
+misused_so P size address shown (OtherImage file place) two = cc
 misused_so P size address shown (TooManyRows file) two = cc
 misused_so P size address shown NoThread two = cc
 misused_so P size address shown Mismatch two = cc

@@ -3,7 +3,7 @@ use Rattle.std.specs.Prelude.{◌≡◌, ◌≢◌, ◌⊎◌, ◌<◌, ℕ, [],
 use Rattle.clap.specs.Words.{Text}
 use Rattle.command_files.specs.Contents.{Contents}
 use Rattle.script_commands.specs.Replaying.{IsCutOff, IsReplayEndTold, IsReplayed}
-use Rattle.script_commands.specs.Explaining.{IsExplained, IsStreamCutOff}
+use Rattle.trace_commands.specs.Kinds.{IsHalfTold, IsTold}
 use Rattle.explore_command.specs.Exploring.{ExplorationHas, ExplorationRefusals, IsExplorationTold}
 use Rattle.explore_command.specs.Judging.{IsToldBy}
 use Rattle.explore_command.specs.Keeping.{IsScriptFile}
@@ -95,10 +95,10 @@ abbrev pub IsExploreFile : (architecture : Bool) → Seeking → Text → Type 0
 IsExploreFile true explore = IsFileInNamed explore.scripts
 IsExploreFile false explore = IsScriptFile explore.scripts
 
--- the script was replayed and its trace printed, or what each of its events did and, where that is wanted, what the machine holds at the end, or a picture of it; the program ran and its journal was kept and its trace printed; it was explored and each outcome is allowed; or the trace's order is legal, or its messages
+-- the script was replayed and its trace printed, or what each of its events did and, where that is wanted, what the machine holds at the end, or a picture of it; or what is told of a trace's order was printed; the program ran and its journal was kept and its trace printed; it was explored and each outcome is allowed; or the trace's order is legal, or its messages
 abbrev pub IsDone : Contents → Contents → Option (List ℕ) → Option (List ℕ) → Settings → Type 0
 IsDone held left old new (Replay replay) = IsReplayed held replay old new
-IsDone held left old new (Explain explain) = IsExplained held explain.replay (strictness_of explain.strict) explain.state old new
+IsDone held left old new (Explain explain) = IsTold held explain.replay (strictness_of explain.strict) explain.state old new
 IsDone held left old new (Run run) = IsRun held left run old new
 IsDone held left old new (Explore explore) = ExploreCame explore.architecture (nat_lt 0 explore.sample) Allowed held left explore old new
 IsDone held left old new (Show show) = ShowCame show.explore.architecture Allowed held left show old new
@@ -149,7 +149,7 @@ Came held left old new wanted NotAllowed = IsFaulty held left old new wanted
 -- no more than a beginning of what was to be printed went out: of a stream, all that stands before the event at which it ends
 abbrev pub IsHalfPrinted : Contents → Contents → Option (List ℕ) → Option (List ℕ) → Settings → Type 0
 IsHalfPrinted held left old new (Replay replay) = IsCutOff held replay old new
-IsHalfPrinted held left old new (Explain explain) = IsStreamCutOff held explain.replay (strictness_of explain.strict) explain.state old new
+IsHalfPrinted held left old new (Explain explain) = IsHalfTold held explain.replay (strictness_of explain.strict) explain.state old new
 IsHalfPrinted held left old new (Run run) = IsRunCutOff held left run old new
 IsHalfPrinted held left old new (Explore explore) = ExploreHas explore.architecture (nat_lt 0 explore.sample) held explore (Begins old new)
 IsHalfPrinted held left old new (Show show) = ShowHas show.explore.architecture held show (Begins old new)

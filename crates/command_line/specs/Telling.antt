@@ -15,7 +15,8 @@ use Rattle.command_settings.specs.declared.wanted.Check.{Check as Judging}
 use Rattle.command_settings.specs.declared.wanted.Settings.{Settings}
 use Rattle.command_settings.specs.declared.wanted.Settings.TheVariants.{Chart, Check, Explain, Explore, Replay, Run, Show}
 use Rattle.command_settings.specs.declared.wanted.Show.{Show as Showing}
-use Rattle.script_commands.specs.Explaining.{IsExplainFault, LeavesOfStream}
+use Rattle.script_commands.specs.Explaining.{LeavesOfStream}
+use Rattle.trace_commands.specs.Kinds.{IsTellingFault}
 use Rattle.explore_command.specs.Exploring.{ComesBeforeScripts, IsExploreFault, LeavesPart}
 use Rattle.run_command.specs.Running.{ComesBeforeJournal, IsRunFault}
 use Rattle.explore_command.specs.Showing.{IsShowFault}
@@ -33,7 +34,7 @@ IsShowingFault false held show = IsShowFault held show
 -- each command says which faults it has, of which file, and what that file then holds
 abbrev pub IsFaultOfCommand : Contents → Option (List ℕ) → Option (List ℕ) → Settings → Fault → Type 0
 IsFaultOfCommand held old new (Replay replay) = IsReplayFault held replay
-IsFaultOfCommand held old new (Explain explain) = IsExplainFault held explain.replay (strictness_of explain.strict) old new
+IsFaultOfCommand held old new (Explain explain) = IsTellingFault held explain.replay (strictness_of explain.strict) old new
 IsFaultOfCommand held old new (Run run) = IsRunFault held run
 IsFaultOfCommand held old new (Explore explore) = IsExploreFault held explore
 IsFaultOfCommand held old new (Show show) = IsShowingFault show.explore.architecture held show

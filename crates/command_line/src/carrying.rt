@@ -20,11 +20,12 @@ use lawful_log::LogVerdict;
 use progress_line::Progress;
 use run_command::run_files;
 use rvwmo_order::Verdict;
-use script_commands::{chart_files, explain_files, replay_files};
+use script_commands::{chart_files, replay_files};
 use std::alloc::Global;
 use std::io::Write;
 use std::sync::Wait;
 use std::thread::Threads;
+use trace_commands::explain_files;
 
 /// Carries out what the words ask for. What it answers is not allowed where an order or messages aren't
 /// legal, or an outcome isn't one that is allowed.

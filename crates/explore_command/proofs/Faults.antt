@@ -4,7 +4,7 @@ use Rattle.std.specs.Io.KnownBytes.{Appends}
 use Rattle.command_files.specs.Faults.{IsReadFault, Name}
 use Rattle.command_files.specs.Contents.{Contents}
 use Rattle.command_files.specs.declared.fault.Fault.{Fault}
-use Rattle.command_files.specs.declared.fault.Fault.TheVariants.{BadAddress, BadEvent, BytesAfterTrace, CannotMake, CannotRead, CannotShow, CannotWrite, Check, Configuration, Event, Image, Mismatch, NoThread, NothingHappens, OutOfMemory, Text, TooManyRows}
+use Rattle.command_files.specs.declared.fault.Fault.TheVariants.{BadAddress, BadEvent, BytesAfterTrace, CannotMake, CannotRead, CannotShow, CannotWrite, Check, Configuration, Event, Image, Mismatch, NoThread, NothingHappens, OtherImage, OutOfMemory, Text, TooManyRows}
 use Rattle.command_settings.specs.declared.wanted.Explore.{Explore}
 use Rattle.explore_command.specs.Exploring.{ComesBeforeScripts, IsExploreFault, IsFirstFault, IsFolderFault, IsNamedBy, IsReadingFault, LeavesPart}
 use Rattle.text_fields.specs.Writing.{Begins}
@@ -38,7 +38,9 @@ reading_told held explore (BytesAfterTrace file) (inl so) = absurd (no_other exp
 reading_told held explore (BytesAfterTrace file) (inr so) = absurd so
 reading_told held explore (Check file error) (inl so) = absurd (no_other explore.allow (Check file error) (λ name is. is) so)
 reading_told held explore (Check file error) (inr so) = absurd so
+reading_told held explore (OtherImage file address) (inl so) = absurd (no_other explore.allow (OtherImage file address) (λ name is. is) so)
 reading_told held explore (TooManyRows file) (inl so) = absurd (no_other explore.allow (TooManyRows file) (λ name is. is) so)
+reading_told held explore (OtherImage file address) (inr so) = absurd so
 reading_told held explore (TooManyRows file) (inr so) = absurd so
 reading_told held explore (BadAddress word) (inl so) = absurd (no_other explore.allow (BadAddress word) (λ name is. is) so)
 reading_told held explore (CannotShow word cause) (inl so) = absurd (no_other explore.allow (CannotShow word cause) (λ name is. is) so)
@@ -66,6 +68,7 @@ reading_left held explore (Event file line error) old new Has so same = same
 reading_left held explore (NothingHappens file line outcome) old new Has so same = same
 reading_left held explore (BytesAfterTrace file) old new Has so same = same
 reading_left held explore (Check file error) old new Has so same = same
+reading_left held explore (OtherImage file address) old new Has so same = same
 reading_left held explore (TooManyRows file) old new Has so same = same
 reading_left held explore (BadAddress word) old new Has so same = same
 reading_left held explore (CannotShow word cause) old new Has so same = same
@@ -152,6 +155,7 @@ some_part old new Has (Event file line error) begin so = inl so
 some_part old new Has (NothingHappens file line outcome) begin so = inl so
 some_part old new Has (BytesAfterTrace file) begin so = inl so
 some_part old new Has (Check file error) begin so = inl so
+some_part old new Has (OtherImage file address) begin so = inl so
 some_part old new Has (TooManyRows file) begin so = inl so
 some_part old new Has (BadAddress word) begin so = inl so
 some_part old new Has (CannotShow word cause) begin so = inl so

@@ -100,15 +100,15 @@ if_so false text = []
 
 -- aq on the first (rule 5), rl on the second (rule 6), each where its instruction has these bits and they are its annotation (chapter 8.1)
 abbrev pub bits : Kind → Kind → List ℕ
-bits a b = if_so (is_lr a || is_amo a) (codes "aq ") ++ if_so (is_sc b || is_amo b) (codes "rl ")
+bits a b = if_so (is_lr a || is_amo a) (codes ", or aq on the first") ++ if_so (is_sc b || is_amo b) (codes ", or rl on the second")
 
 -- an address dependency (rule 9); a data or a control dependency of a store (rules 10 and 11): each on what reads
 abbrev pub dependencies : Kind → Kind → List ℕ
-dependencies a b = if_so (reads a) (codes "address ") ++ if_so (reads a && writes b) (codes "data control ")
+dependencies a b = if_so (reads a) (codes ", or an address dependency") ++ if_so (reads a && writes b) (codes ", or a data or control dependency")
 
--- a FENCE between them (rule 4), with the smallest sets
+-- a FENCE (rule 4) with the smallest sets, or one of those
 abbrev pub remedies : Kind → Kind → List ℕ
-remedies a b = bits a b ++ (dependencies a b ++ assembly None (fence_between a b))
+remedies a b = assembly None (fence_between a b) ++ (codes " between them" ++ (bits a b ++ dependencies a b))
 
 -- ---- lines, without what stands behind the semicolon
 
@@ -127,10 +127,10 @@ fields (Instruction o pc w p) = codes "R " ++ (name o ++ (spaced (word pc) ++ sp
 fields (Access a) = codes "A " ++ (name (name_of a) ++ spaced (access a))
 fields (Linked link a other x count) = link_name link ++ (linked link a other ++ (spaced (word x) ++ spaced (decimal count)))
 fields (Neighbours a b r) = codes "ppo " ++ (name a ++ (spaced (name b) ++ spaced (rule_number r)))
-fields (Overtaking a b) = codes "overtakes " ++ (name (name_of b) ++ (spaced (name (name_of a)) ++ spaced (remedies a.kind b.kind)))
+fields (Overtaking a b) = codes "overtakes " ++ (name (name_of b) ++ spaced (name (name_of a)))
 fields (Ordered n a) = codes "P " ++ (decimal n ++ (spaced (name (name_of a)) ++ spaced (access a)))
 
--- ---- behind the semicolon: an instruction, the name of an address, a rule's name
+-- ---- behind the semicolon: an instruction, the name of an address, a rule's name, what would have ordered two operations
 
 abbrev pub near_text : Option Near → List ℕ
 near_text None = []
@@ -140,6 +140,9 @@ abbrev pub rule_text : Option Rule → List ℕ
 rule_text None = []
 rule_text (Some r) = codes " ; " ++ rule_name r
 
+abbrev pub order_text : Kind → Kind → List ℕ
+order_text a b = codes " ; to order them: " ++ remedies a b
+
 abbrev pub remark : List Named → Line → List ℕ
 remark names (Instruction o pc w p) = disassembled names pc (decoded w)
 remark names (Access a) = near_text (nearest names a.address)
@@ -148,7 +151,7 @@ remark names (Ordered n a) = near_text (nearest names a.address)
 remark names (Neighbours a b r) = rule_text r
 remark names (Judged model broken) = []
 remark names (Performed performed operations) = []
-remark names (Overtaking a b) = []
+remark names (Overtaking a b) = order_text a.kind b.kind
 
 -- ---- a line, and all of them
 

@@ -18,5 +18,6 @@ mod tests;
 mod writing;
 
 pub use line::{Broken, Line, Link};
+pub use naming::spell_place;
 pub use telling::order_lines;
 pub use writing::write_lines;

@@ -43,7 +43,8 @@ fn spell_distance(page: &mut Page, n: u32)
     }
 }
 
-pub(crate) fn spell_place(page: &mut Page, place: Place<'_>)
+/// Appends the name of a place: `<name>`, or `<name+0x8>` of one that lies behind it; at most 69 bytes.
+pub fn spell_place(page: &mut Page, place: Place<'_>)
     requires room { length page.old + 69 ≤ size }
     requires short { length place.name.now ≤ 56 }
     ensures value { page.new ≡ page.old ++ naming.place (near_of place.entry) }

@@ -263,31 +263,36 @@ fn spell_if(page: &mut Page, is_so: bool, word: &[u8])
 }
 
 fn spell_bits(page: &mut Page, a: Kind, b: Kind)
-    requires { length page.old + 6 ≤ size }
+    requires { length page.old + 42 ≤ size }
     ensures value { page.new ≡ page.old ++ text.bits a b }
-    ensures len { length page.new ≤ length page.old + 6 }
+    ensures len { length page.new ≤ length page.old + 42 }
 {
-    spell_if(page, is_lr(a) || is_amo(a), b"aq ");
-    spell_if(page, is_sc(b) || is_amo(b), b"rl ");
+    spell_if(page, is_lr(a) || is_amo(a), b", or aq on the first");
+    spell_if(page, is_sc(b) || is_amo(b), b", or rl on the second");
 }
 
 fn spell_dependencies(page: &mut Page, a: Kind, b: Kind)
-    requires { length page.old + 21 ≤ size }
+    requires { length page.old + 60 ≤ size }
     ensures value { page.new ≡ page.old ++ text.dependencies a b }
-    ensures len { length page.new ≤ length page.old + 21 }
+    ensures len { length page.new ≤ length page.old + 60 }
 {
-    spell_if(page, reads(a), b"address ");
-    spell_if(page, reads(a) && writes(b), b"data control ");
+    spell_if(page, reads(a), b", or an address dependency");
+    spell_if(
+        page,
+        reads(a) && writes(b),
+        b", or a data or control dependency",
+    );
 }
 
 fn spell_remedies(page: &mut Page, a: Kind, b: Kind)
-    requires { length page.old + 75 ≤ size }
+    requires { length page.old + 180 ≤ size }
     ensures value { page.new ≡ page.old ++ text.remedies a b }
-    ensures len { length page.new ≤ length page.old + 75 }
+    ensures len { length page.new ≤ length page.old + 180 }
 {
+    spell_assembly(page, &fence_between(a, b), None);
+    page.text(b" between them");
     spell_bits(page, a, b);
     spell_dependencies(page, a, b);
-    spell_assembly(page, &fence_between(a, b), None);
 }
 
 fn space_rule_number(page: &mut Page, rule: Option<Rule>)
@@ -297,15 +302,6 @@ fn space_rule_number(page: &mut Page, rule: Option<Rule>)
 {
     page.text(b" ");
     spell_rule_number(page, rule);
-}
-
-fn space_remedies(page: &mut Page, a: Kind, b: Kind)
-    requires { length page.old + 76 ≤ size }
-    ensures value { page.new ≡ page.old ++ text.spaced (text.remedies a b) }
-    ensures len { length page.new ≤ length page.old + 76 }
-{
-    page.text(b" ");
-    spell_remedies(page, a, b);
 }
 
 fn spell_judged(page: &mut Page, model: MemoryModel, broken: Option<Broken>)
@@ -380,7 +376,6 @@ fn spell_overtaking(page: &mut Page, first: &Operation, second: &Operation)
     page.text(b"overtakes ");
     spell_name(page, name_of(second));
     space_name(page, name_of(first));
-    space_remedies(page, first.kind, second.kind);
 }
 
 fn spell_ordered(page: &mut Page, position: usize, operation: &Operation)
@@ -466,17 +461,27 @@ fn spell_disassembled(page: &mut Page, names: &Symbols, pc: u32, word: u32)
     }
 }
 
+fn spell_order(page: &mut Page, a: Kind, b: Kind)
+    requires { length page.old + 200 ≤ size }
+    ensures value { page.new ≡ page.old ++ text.order_text a b }
+    ensures len { length page.new ≤ length page.old + 200 }
+{
+    page.text(b" ; to order them: ");
+    spell_remedies(page, a, b);
+}
+
 fn spell_named(page: &mut Page, names: &Symbols, line: &Line)
-    requires { length page.old + 191 ≤ size }
+    requires { length page.old + 255 ≤ size }
     ensures value { page.new ≡ page.old ++ text.remark names.now line.now }
-    ensures len { length page.new ≤ length page.old + 191 }
+    ensures len { length page.new ≤ length page.old + 255 }
 {
     match *line {
         Line::Instruction { pc, word, .. } => spell_disassembled(page, names, pc, word),
         Line::Access(a) | Line::Ordered { operation: a, .. } => spell_near(page, names, a.address),
         Line::Linked { address, .. } => spell_near(page, names, address),
         Line::Neighbours { rule, .. } => spell_rule(page, rule),
-        Line::Judged { .. } | Line::Performed { .. } | Line::Overtaking { .. } => {}
+        Line::Overtaking { first, second } => spell_order(page, first.kind, second.kind),
+        Line::Judged { .. } | Line::Performed { .. } => {}
     }
 }
 

@@ -44,7 +44,7 @@ A 0:8 load 0x80000104 4 0x00000000 -
 rf image 0:8 0x80000104 4
 fr 0:8 1:7 0x80000104 4
 ppo 0:7 0:8 -
-overtakes 0:8 0:7 fence w, r
+overtakes 0:8 0:7 ; to order them: fence w, r between them
 R 1:0 0x80000000 - ; lui a2, 0x80000
 R 1:1 0x80000004 - ; addi a3, zero, 1
 R 1:2 0x80000008 - ; slli a4, a0, 2
@@ -60,7 +60,7 @@ A 1:8 load 0x80000100 4 0x00000000 -
 rf image 1:8 0x80000100 4
 fr 1:8 0:7 0x80000100 4
 ppo 1:7 1:8 -
-overtakes 1:8 1:7 fence w, r
+overtakes 1:8 1:7 ; to order them: fence w, r between them
 P 0 0:8 load 0x80000104 4 0x00000000 -
 P 1 1:8 load 0x80000100 4 0x00000000 -
 P 2 0:7 store 0x80000100 4 - 0x00000001

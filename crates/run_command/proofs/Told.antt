@@ -3,7 +3,7 @@ use Rattle.command_files.specs.Contents.{Contents}
 use Rattle.command_files.specs.Faults.{IsImageFault}
 use Rattle.run_command.specs.Running.{IsRunFault}
 use Rattle.command_files.specs.declared.fault.Fault.{Fault}
-use Rattle.command_files.specs.declared.fault.Fault.TheVariants.{BadAddress, BadEvent, BytesAfterTrace, CannotMake, CannotRead, CannotShow, CannotWrite, Check, Configuration, Event, Image, Mismatch, NoThread, NothingHappens, OutOfMemory, Text, TooManyRows}
+use Rattle.command_files.specs.declared.fault.Fault.TheVariants.{BadAddress, BadEvent, BytesAfterTrace, CannotMake, CannotRead, CannotShow, CannotWrite, Check, Configuration, Event, Image, Mismatch, NoThread, NothingHappens, OtherImage, OutOfMemory, Text, TooManyRows}
 use Rattle.command_settings.specs.declared.wanted.Run.{Run}
 
 pub of_run_image : (held : Contents) (run : Run) (fault : Fault) → IsImageFault held run.raw run.image run.machine.memory fault → IsRunFault held run fault
@@ -17,6 +17,7 @@ of_run_image held run (Event file line error) is = absurd is
 of_run_image held run (BytesAfterTrace file) is = absurd is
 of_run_image held run (NothingHappens file line outcome) is = absurd is
 of_run_image held run (Check file error) is = absurd is
+of_run_image held run (OtherImage file address) is = absurd is
 of_run_image held run (TooManyRows file) is = absurd is
 of_run_image held run (BadAddress word) is = absurd is
 of_run_image held run (CannotShow word cause) is = absurd is

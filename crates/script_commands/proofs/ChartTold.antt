@@ -7,7 +7,7 @@ use Rattle.command_files.specs.Files.{HoldsScript}
 use Rattle.command_files.specs.Contents.{Contents}
 use Rattle.command_files.specs.Status.{status_of}
 use Rattle.command_files.specs.declared.fault.Fault.{Fault}
-use Rattle.command_files.specs.declared.fault.Fault.TheVariants.{BadAddress, BadEvent, BytesAfterTrace, CannotMake, CannotRead, CannotShow, CannotWrite, Check, Configuration, Event, Image, Mismatch, NoThread, NothingHappens, OutOfMemory, Text, TooManyRows}
+use Rattle.command_files.specs.declared.fault.Fault.TheVariants.{BadAddress, BadEvent, BytesAfterTrace, CannotMake, CannotRead, CannotShow, CannotWrite, Check, Configuration, Event, Image, Mismatch, NoThread, NothingHappens, OtherImage, OutOfMemory, Text, TooManyRows}
 use Rattle.command_settings.specs.declared.wanted.Replay.{Replay}
 use Rattle.run_chart.specs.declared.errors.ChartError.{ChartError}
 use Rattle.run_chart.specs.declared.errors.ChartError.TheVariants as chart
@@ -31,6 +31,7 @@ of_chart_script held replay line (Event file place error) is = absurd is
 of_chart_script held replay line (NothingHappens file place outcome) is = absurd is
 of_chart_script held replay line (BytesAfterTrace file) is = absurd is
 of_chart_script held replay line (Check file error) is = absurd is
+of_chart_script held replay line (OtherImage file address) is = absurd is
 of_chart_script held replay line (TooManyRows file) is = absurd is
 of_chart_script held replay line (BadAddress word) is = absurd is
 of_chart_script held replay line (CannotShow word cause) is = absurd is
@@ -51,6 +52,7 @@ of_chart_image held replay line script (Event file place error) has is = absurd 
 of_chart_image held replay line script (NothingHappens file place outcome) has is = absurd is
 of_chart_image held replay line script (BytesAfterTrace file) has is = absurd is
 of_chart_image held replay line script (Check file error) has is = absurd is
+of_chart_image held replay line script (OtherImage file address) has is = absurd is
 of_chart_image held replay line script (TooManyRows file) has is = absurd is
 of_chart_image held replay line script (BadAddress word) has is = absurd is
 of_chart_image held replay line script (CannotShow word cause) has is = absurd is
@@ -77,6 +79,7 @@ chart_misused held replay line (Event file place error) so two = absurd (one_not
 chart_misused held replay line (NothingHappens file place outcome) so two = absurd (one_not_two two)
 chart_misused held replay line (BytesAfterTrace file) so two = absurd (one_not_two two)
 chart_misused held replay line (Check file error) so two = absurd (one_not_two two)
+chart_misused held replay line (OtherImage file address) so two = absurd (one_not_two two)
 chart_misused held replay line (TooManyRows file) so two = absurd (one_not_two two)
 chart_misused held replay line (BadAddress word) so two = subst (λ (l : Option Name). IsNoAddress l (BadAddress word)) (sym so.0) (so.1, refl)
 chart_misused held replay line (CannotShow word cause) so two = absurd so

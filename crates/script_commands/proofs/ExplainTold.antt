@@ -7,7 +7,7 @@ use Rattle.command_files.specs.Faults.{IsImageFault, IsScriptFault, Name}
 use Rattle.command_files.specs.Files.{HoldsScript}
 use Rattle.script_commands.specs.Explaining.{IsExplainFault, LeavesOfStream}
 use Rattle.command_files.specs.declared.fault.Fault.{Fault}
-use Rattle.command_files.specs.declared.fault.Fault.TheVariants.{BadAddress, BadEvent, BytesAfterTrace, CannotMake, CannotRead, CannotShow, CannotWrite, Check, Configuration, Event, Image, Mismatch, NoThread, NothingHappens, OutOfMemory, Text, TooManyRows}
+use Rattle.command_files.specs.declared.fault.Fault.TheVariants.{BadAddress, BadEvent, BytesAfterTrace, CannotMake, CannotRead, CannotShow, CannotWrite, Check, Configuration, Event, Image, Mismatch, NoThread, NothingHappens, OtherImage, OutOfMemory, Text, TooManyRows}
 use Rattle.command_settings.specs.declared.wanted.Replay.{Replay}
 use Rattle.trace_text.specs.declared.script.Script.{Script}
 
@@ -22,6 +22,7 @@ of_explained_script held replay strictness old new (Event file line error) is = 
 of_explained_script held replay strictness old new (NothingHappens file line outcome) is = absurd is
 of_explained_script held replay strictness old new (BytesAfterTrace file) is = absurd is
 of_explained_script held replay strictness old new (Check file error) is = absurd is
+of_explained_script held replay strictness old new (OtherImage file address) is = absurd is
 of_explained_script held replay strictness old new (TooManyRows file) is = absurd is
 of_explained_script held replay strictness old new (BadAddress word) is = absurd is
 of_explained_script held replay strictness old new (CannotShow word cause) is = absurd is
@@ -42,6 +43,7 @@ of_explained_image held replay strictness old new script (Event file line error)
 of_explained_image held replay strictness old new script (NothingHappens file line outcome) has is = absurd is
 of_explained_image held replay strictness old new script (BytesAfterTrace file) has is = absurd is
 of_explained_image held replay strictness old new script (Check file error) has is = absurd is
+of_explained_image held replay strictness old new script (OtherImage file address) has is = absurd is
 of_explained_image held replay strictness old new script (TooManyRows file) has is = absurd is
 of_explained_image held replay strictness old new script (BadAddress word) has is = absurd is
 of_explained_image held replay strictness old new script (CannotShow word cause) has is = absurd is
@@ -61,6 +63,7 @@ explain_never_misused held replay strictness old new (Event file line error) so 
 explain_never_misused held replay strictness old new (NothingHappens file line outcome) so two = cc
 explain_never_misused held replay strictness old new (BytesAfterTrace file) so two = cc
 explain_never_misused held replay strictness old new (Check file error) so two = cc
+explain_never_misused held replay strictness old new (OtherImage file address) so two = cc
 explain_never_misused held replay strictness old new (TooManyRows file) so two = cc
 explain_never_misused held replay strictness old new (BadAddress word) so two = so
 explain_never_misused held replay strictness old new (CannotShow word cause) so two = so
@@ -81,6 +84,7 @@ script_left held name old new cut (Event file line error) is same = absurd is
 script_left held name old new cut (NothingHappens file line outcome) is same = absurd is
 script_left held name old new cut (BytesAfterTrace file) is same = absurd is
 script_left held name old new cut (Check file error) is same = absurd is
+script_left held name old new cut (OtherImage file address) is same = absurd is
 script_left held name old new cut (TooManyRows file) is same = absurd is
 script_left held name old new cut (BadAddress word) is same = absurd is
 script_left held name old new cut (CannotShow word cause) is same = absurd is
@@ -100,6 +104,7 @@ image_left held is_raw name kib old new cut (Event file line error) is same = ab
 image_left held is_raw name kib old new cut (NothingHappens file line outcome) is same = absurd is
 image_left held is_raw name kib old new cut (BytesAfterTrace file) is same = absurd is
 image_left held is_raw name kib old new cut (Check file error) is same = absurd is
+image_left held is_raw name kib old new cut (OtherImage file address) is same = absurd is
 image_left held is_raw name kib old new cut (TooManyRows file) is same = absurd is
 image_left held is_raw name kib old new cut (BadAddress word) is same = absurd is
 image_left held is_raw name kib old new cut (CannotShow word cause) is same = absurd is

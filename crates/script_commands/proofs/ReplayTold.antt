@@ -6,7 +6,7 @@ use Rattle.command_files.specs.Faults.{IsImageFault, IsScriptFault}
 use Rattle.command_files.specs.Files.{HoldsScript}
 use Rattle.command_files.specs.Faults.{IsReplayFault}
 use Rattle.command_files.specs.declared.fault.Fault.{Fault}
-use Rattle.command_files.specs.declared.fault.Fault.TheVariants.{BadAddress, BadEvent, BytesAfterTrace, CannotMake, CannotRead, CannotShow, CannotWrite, Check, Configuration, Event, Image, Mismatch, NoThread, NothingHappens, OutOfMemory, Text, TooManyRows}
+use Rattle.command_files.specs.declared.fault.Fault.TheVariants.{BadAddress, BadEvent, BytesAfterTrace, CannotMake, CannotRead, CannotShow, CannotWrite, Check, Configuration, Event, Image, Mismatch, NoThread, NothingHappens, OtherImage, OutOfMemory, Text, TooManyRows}
 use Rattle.command_settings.specs.declared.wanted.Replay.{Replay}
 use Rattle.trace_text.specs.declared.script.Script.{Script}
 
@@ -21,6 +21,7 @@ of_script held replay (Event file line error) is = absurd is
 of_script held replay (BytesAfterTrace file) is = absurd is
 of_script held replay (NothingHappens file line outcome) is = absurd is
 of_script held replay (Check file error) is = absurd is
+of_script held replay (OtherImage file address) is = absurd is
 of_script held replay (TooManyRows file) is = absurd is
 of_script held replay (BadAddress word) is = absurd is
 of_script held replay (CannotShow word cause) is = absurd is
@@ -41,6 +42,7 @@ of_image held replay script (Event file line error) has is = absurd is
 of_image held replay script (BytesAfterTrace file) has is = absurd is
 of_image held replay script (NothingHappens file line outcome) has is = absurd is
 of_image held replay script (Check file error) has is = absurd is
+of_image held replay script (OtherImage file address) has is = absurd is
 of_image held replay script (TooManyRows file) has is = absurd is
 of_image held replay script (BadAddress word) has is = absurd is
 of_image held replay script (CannotShow word cause) has is = absurd is
@@ -60,6 +62,7 @@ replay_never_misused held replay (Event file line error) so two = cc
 replay_never_misused held replay (BytesAfterTrace file) so two = cc
 replay_never_misused held replay (NothingHappens file line outcome) so two = cc
 replay_never_misused held replay (Check file error) so two = cc
+replay_never_misused held replay (OtherImage file address) so two = cc
 replay_never_misused held replay (TooManyRows file) so two = cc
 replay_never_misused held replay (BadAddress word) so two = so
 replay_never_misused held replay (CannotShow word cause) so two = so

@@ -3,5 +3,5 @@
 mod explaining;
 mod named;
 
-pub use explaining::explain_files;
+pub use explaining::explain_script;
 pub use named::{NamedImage, named_image_in};

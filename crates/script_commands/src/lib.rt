@@ -6,5 +6,5 @@ mod explain;
 mod replay;
 
 pub use chart::{address_in, chart_files};
-pub use explain::{NamedImage, explain_files, named_image_in};
+pub use explain::{NamedImage, explain_script, named_image_in};
 pub use replay::{CompositionError, replay_and_write, replay_files};

@@ -2,12 +2,13 @@
 
 ghost use Rattle.std.specs.Prelude.{◌≡◌, IfErr, OnOk};
 ghost use Rattle.coherent_machine.specs.Machine.{IsReached};
+ghost use Rattle.command_files.specs.Contents.{HoldsBytes};
 ghost use Rattle.script_commands.specs.Explaining.{IsExplainFault, IsExplained, IsPartOfStream, IsStreamCutOff, IsWholeExplanation, LeavesOfStream, state_if};
 ghost use Rattle.text_fields.specs.Writing.{Writes};
 
 use crate::explain::named::{NamedImage, named_image_in};
 use coherent_machine::Machine;
-use command_files::{Fault, Files, config_of, remark_refused, script_in};
+use command_files::{Fault, Files, config_of, remark_refused, script_from};
 use command_settings::Replay;
 use event_stream::{StreamError, Strictness, write_state, write_stream};
 use machine_types::{Config, Event};
@@ -47,25 +48,28 @@ fn tell<O: Write>(
     }
 }
 
-/// Reads and judges the script, then the image, applies the events, and prints on `out` what each did, with the
-/// names that an ELF file has for addresses, and behind it what the machine holds at the end, if that is to
-/// be told.
+/// Judges the script, of which the file's bytes are the text, reads and judges the image, applies the events, and
+/// prints on `out` what each did, with the names that an ELF file has for addresses, and behind it what the machine
+/// holds at the end, if that is to be told.
 /// Where an event is refused, or changes nothing in a strict stream, the stream up to there is printed.
-pub fn explain_files<'a, F: Files, O: Write>(
+pub fn explain_script<'a, F: Files, O: Write>(
     alloc: Global,
     files: &mut F,
     wanted: Replay<'a>,
+    bytes: Vec<u8>,
     strictness: Strictness,
     with_state: bool,
     out: &mut O,
 ) -> Result<(), Fault<'a>>
+    requires { HoldsBytes (F.held files.old) wanted.script.now bytes.items }
     ensures explained { OnOk result (IsExplained (F.held files.old) wanted.entry strictness with_state (O.contents out.old) (O.contents out.new)) }
     ensures unfinished { IfErr result (λ fault. LeavesOfStream fault (O.contents out.old) (O.contents out.new)
         (IsStreamCutOff (F.held files.old) wanted.entry strictness with_state (O.contents out.old) (O.contents out.new))) }
     ensures told { IfErr result (IsExplainFault (F.held files.old) wanted.entry strictness (O.contents out.old) (O.contents out.new)) }
     ensures spared { F.held files.new ≡ F.held files.old }
 {
-    let script = script_in(alloc, files, wanted.script)?;
+    let script = script_from(alloc, files, wanted.script, bytes.as_slice())?;
+    drop(bytes); // the machine needs the room
     let named = named_image_in(alloc, files, wanted.raw, wanted.image, script.kib)?;
     let config = config_of(&script, wanted.model);
     let events = script.events.as_slice();

@@ -5,7 +5,7 @@ use Rattle.command_line.proofs.Meant.{beyond_run, journal_alone, no_address, unw
 use Rattle.command_line.proofs.Leaving.{all_left_of, as_told, chart_inside, chart_outside, check_inside, check_outside, explore_inside, explore_outside, left_of, show_inside, show_outside, stream_left}
 use Rattle.command_line.specs.Running.{IsOutOfRange, IsDone, IsNoted, IsWritten}
 use Rattle.command_line.specs.Telling.{ComesBeforeFiles}
-use Rattle.script_commands.proofs.ExplainTold.{explain_never_misused}
+use Rattle.trace_commands.proofs.Told.{telling_never_misused}
 use Rattle.script_commands.proofs.ReplayTold.{replay_never_misused}
 use Rattle.command_line.proofs.carrying.carry_out.Goals as goal
 
@@ -43,7 +43,7 @@ pub returns-in_err-explain_files-in-Explain-clause-outside : goal.returns-in_err
 returns-in_err-explain_files-in-Explain-clause-outside g c = handed_up _ c.from_residual-in_err-explain_files-in-Explain.result _ c.from_residual-in_err-explain_files-in-Explain.ensures.1 (λ out. absurd (subst IsOutOfRange c.in-Explain.is out))
 
 pub returns-in_err-explain_files-in-Explain-clause-beyond : goal.returns-in_err-explain_files-in-Explain-clause-beyond
-returns-in_err-explain_files-in-Explain-clause-beyond g c = handed_up _ c.from_residual-in_err-explain_files-in-Explain.result _ c.from_residual-in_err-explain_files-in-Explain.ensures.1 (λ two. absurd (explain_never_misused _ _ _ _ _ _ c.in_err-explain_files-in-Explain.ensures.told two))
+returns-in_err-explain_files-in-Explain-clause-beyond g c = handed_up _ c.from_residual-in_err-explain_files-in-Explain.result _ c.from_residual-in_err-explain_files-in-Explain.ensures.1 (λ two. absurd (telling_never_misused _ _ _ _ _ _ c.in_err-explain_files-in-Explain.ensures.told two))
 
 pub returns-in_ok-chart_files-in-Chart-clause-came : goal.returns-in_ok-chart_files-in-Chart-clause-came
 returns-in_ok-chart_files-in-Chart-clause-came g c = subst (IsDone _ _ _ _) (sym c.in-Chart.is) c.in_ok-chart_files-in-Chart.ensures.charted

@@ -6,7 +6,7 @@ use Rattle.command_files.proofs.Left.{handed_up, image_as_before}
 use Rattle.script_commands.proofs.ExplainTold.{image_left, of_explained_image, of_explained_script, script_left}
 use Rattle.command_files.proofs.Limits.{memory_within}
 use Rattle.script_commands.proofs.Streams.{cut_left, lost_left, lost_told, part_at, part_of, part_on, told_as, whole_at}
-use Rattle.script_commands.proofs.explain.explaining.explain_files.Goals as goal
+use Rattle.script_commands.proofs.explain.explaining.explain_script.Goals as goal
 
 pub named_image_in-requires : goal.named_image_in-requires
 named_image_in-requires g c = memory_within c.in_ok-script.script c.in_ok-script.ensures.script.is_script
@@ -18,7 +18,7 @@ returns-in_err-script-clause-unfinished g c =
 pub returns-in_err-named-clause-unfinished : goal.returns-in_err-named-clause-unfinished
 returns-in_err-named-clause-unfinished g c =
     handed_up _ c.from_residual-in_err-named.result _ c.from_residual-in_err-named.ensures.1
-    (image_left (g.F.Files.held c.script_in.new.files) c.args.wanted.raw c.args.wanted.image c.in_ok-script.script.kib _ _ _ _ c.in_err-named.ensures.fault refl)
+    (image_left (g.F.Files.held c.script_from.new.files) c.args.wanted.raw c.args.wanted.image c.in_ok-script.script.kib _ _ _ _ c.in_err-named.ensures.fault refl)
 
 pub returns-in_err-script-clause-told : goal.returns-in_err-script-clause-told
 returns-in_err-script-clause-told g c =
@@ -28,7 +28,7 @@ pub returns-in_err-named-clause-told : goal.returns-in_err-named-clause-told
 returns-in_err-named-clause-told g c =
     handed_up _ c.from_residual-in_err-named.result _ c.from_residual-in_err-named.ensures.1
     (of_explained_image (g.F.Files.held c.args.files.now) c.args.wanted _ _ _ c.in_ok-script.script _ c.in_ok-script.ensures.script
-    (image_as_before (g.F.Files.held c.script_in.new.files) (g.F.Files.held c.args.files.now) c.args.wanted.raw c.args.wanted.image c.in_ok-script.script.kib _ c.in_ok-script.ensures.stays c.in_err-named.ensures.fault))
+    (image_as_before (g.F.Files.held c.script_from.new.files) (g.F.Files.held c.args.files.now) c.args.wanted.raw c.args.wanted.image c.in_ok-script.script.kib _ c.in_ok-script.ensures.stays c.in_err-named.ensures.fault))
 
 pub returns-in-Ok-clause-explained : goal.returns-in-Ok-clause-explained
 returns-in-Ok-clause-explained g c = record {

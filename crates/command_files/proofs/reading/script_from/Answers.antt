@@ -5,7 +5,7 @@ use Rattle.trace_text.specs.Refusals.{IsScriptRefusal}
 use Rattle.trace_text.specs.declared.fault.TextError.{TextError}
 use Rattle.trace_text.specs.declared.script.Script.{Script}
 use Rattle.command_files.proofs.NoScript.{no_script_told}
-use Rattle.command_files.proofs.reading.script_in.Goals as goal
+use Rattle.command_files.proofs.reading.script_from.Goals as goal
 
 abbrev script_or : Script → Result Script TextError → Script
 script_or d (Ok s) = s
@@ -20,11 +20,11 @@ one_script r script other is only = ap (script_or script) (sym is ∙ only (subs
 
 pub returns-in-Ok-clause-only : goal.returns-in-Ok-clause-only
 returns-in-Ok-clause-only g c = λ other is held.
-    one_script c.read_script.result c.in-Ok.script other c.in-Ok.is (c.read_script.ensures.only other is (c.as_slice.ensures.value ∙ held_bytes _ _ _ c.in_ok-bytes.ensures.bytes held))
+    one_script c.read_script.result c.in-Ok.script other c.in-Ok.is (c.read_script.ensures.only other is (held_bytes _ _ _ c.requires held))
 
-pub returns-clause-fault : goal.returns-clause-fault
-returns-clause-fault g c =
-    no_script_told c.in_ok-bytes.bytes.items c.read_script.result c.in-Err.error c.in-Err.is
-    (λ s is_script e. c.read_script.ensures.only s is_script (c.as_slice.ensures.value ∙ e))
-    (λ other. subst (λ (bytes : List ℕ). IfErr c.read_script.result (IsScriptRefusal bytes)) c.as_slice.ensures.value (c.read_script.ensures.refused other))
-    (g.F.Files.held c.args.files.now) c.args.name c.text.result c.in_ok-bytes.ensures.bytes c.text.ensures.told c.text.ensures.memory
+pub returns-after-of-clause-fault : goal.returns-after-of-clause-fault
+returns-after-of-clause-fault g c =
+    no_script_told c.args.bytes.now c.read_script.result c.in-Err.error c.in-Err.is
+    (λ s is_script e. c.read_script.ensures.only s is_script e)
+    (λ other. c.read_script.ensures.refused other)
+    (g.F.Files.held c.args.files.now) c.args.name c.text.result c.requires c.text.ensures.told c.text.ensures.memory
