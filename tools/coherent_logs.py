@@ -1,16 +1,17 @@
 #!/usr/bin/env python3
 """Judges the messages of a trace by the permissions and bytes that they gave and took: `coherent_logs.py [TRACE]`.
 
-These rules are written here alone, without proofs; `rvtl check --messages` asks others (docs/FORMATS.md), and a log is to be
-lawful by it first. What a client has of a line is what its last Grant gave, or its last ProbeAck or Release left: by the client
-a Grant counts once it is taken, the others once they are sent; by the manager the other way round. At the start no client has
-anything, and memory is what the I lines say.
+These are five of the rules that `rvtl check --messages` asks (docs/FORMATS.md), written without proofs; it asks eight others
+too, and a log is to be lawful by those first. What a client has of a line is what its last Grant gave, or its last ProbeAck or
+Release left: by the client a Grant counts once it is taken, the others once they are sent; by the manager the other way round.
+At the start no client has anything, and memory is what the I lines say; where there is none, it isn't known.
 
     permission-held   a Grow, and the first half of a Release's Change, are what the client has
     probe-obeyed      a ProbeAck's Change is what the Probe that its client took last leaves of what the client has
     one-writer        a Grant toT goes out where no other client has anything, toB where none has T, by the manager
     data-asked        ProbeAckData and ReleaseData come of T
-    data-kept         GrantData has the bytes that were brought to the manager last; where none were, memory's at the start
+    data-kept         GrantData has the bytes that were brought to the manager or granted last; where none were, memory's at the
+                      start, if they are known
 
 It prints `coherent`, or `incoherent RULE NUMBER` (the message counted from 0, the first that breaks a rule, and the first rule
 that it breaks) and the lines of the messages that it doesn't fit; the status then is 3."""
@@ -26,6 +27,7 @@ class Judge:
         self.noted = {}  # the same by the manager
         self.probed = {}  # the permission that a Probe leaves at most, and the line of the text on which it was taken
         self.bytes = {}  # by line: the manager's bytes, and the line of the text on which they came
+        self.is_known = False  # what memory has at the start, by I lines
 
     def fault(self, client, name, line, change, data):
         """Returns the first rule that a message breaks as it is sent, and why; None where it breaks none."""
@@ -45,9 +47,9 @@ class Judge:
         if name in ("ProbeAckData", "ReleaseData") and has != "T":
             return "data-asked", own
         if name == "GrantData":
-            known, place = self.bytes.get(line, ("0" * len(data), None))
+            known, place = self.bytes.get(line, ("0" * len(data) if self.is_known else data, None))
             if data != known:
-                return "data-kept", f"line {place} brought other bytes" if place else "memory has other bytes at the start"
+                return "data-kept", f"line {place} carried other bytes" if place else "memory has other bytes at the start"
         return None
 
     def note(self, way, client, name, line, change, data, place):
@@ -55,6 +57,8 @@ class Judge:
             self.probed[client, line] = (change[-1], place)
         elif name.startswith("Grant") and name != "GrantAck":
             (self.held if way == "t" else self.noted)[client, line] = (change[-1], place)
+            if data and way == "s":
+                self.bytes[line] = (data, place)
         elif change and name not in ("AcquireBlock", "ProbeBlock"):
             (self.held if way == "s" else self.noted)[client, line] = (change[-1], place)
             if data and way == "t":
@@ -68,6 +72,7 @@ def judge(lines):
         words = text.split()
         if words[:1] == ["I"]:
             judged.bytes[words[1]] = (words[2], None)
+            judged.is_known = True
         if words[:1] != ["M"]:
             continue
         way, client, name, line = words[1], int(words[3]), words[4], words[5]

@@ -1,13 +1,11 @@
 -- What a file that is read as a log holds, and what is said of the log.
 use Rattle.std.proofs.Common.{ℕ, ◌≡◌, ◌∙◌, IfSome, List, None, Option, Some, ap, subst, sym}
-use Rattle.std.specs.Prelude.{◌↔◌}
-use Rattle.check_command.specs.Messages.{HoldsLog, IsLogVerdict}
+use Rattle.check_command.specs.Messages.{HoldsLog, memory_told}
 use Rattle.command_files.specs.Contents.{Contents, HoldsBytes}
-use Rattle.lawful_log.specs.Laws.{IfUnlawful, IsFirstBreach}
-use Rattle.lawful_log.specs.declared.rule.LogVerdict.{LogVerdict}
-use Rattle.lawful_log.specs.declared.rule.LogVerdict.TheVariants.{Lawful}
+use Rattle.elf_loader.specs.Image.{Initial}
 use Rattle.log_text.specs.Ending.{ended}
-use Rattle.machine_model.specs.LawfulLog.{IsLawfulLog}
+use Rattle.message_judge.specs.Laws.{IsMessageVerdict}
+use Rattle.message_judge.specs.declared.verdict.MessageVerdict.{MessageVerdict}
 use Rattle.trace_recorder.specs.History.{History}
 use Rattle.trace_recorder.specs.declared.logged.Logged.{Logged}
 use Rattle.trace_text.specs.TraceLimits.{IsTrace}
@@ -25,5 +23,6 @@ log_held held name bytes read t same is found = record {
   bytes = ended_alike (held name) bytes (text t) same (sym is ∙ found.1);
 }
 
-pub verdict_on : (judged log : List Logged) (v : LogVerdict) → judged ≡ log → ((v ≡ Lawful) ↔ IsLawfulLog judged) → IfUnlawful v (λ rule index. IsFirstBreach judged rule index) → IsLogVerdict log v
-verdict_on judged log v is lawful unlawful = subst (λ (l : List Logged). IsLogVerdict l v) is (record { lawful = lawful; unlawful = unlawful })
+-- what is said of the memory and the log that are handed on is said of the trace
+pub verdict_on : (t : History) (memory : Option Initial) (log : List Logged) (v : MessageVerdict) → memory ≡ memory_told t.image → log ≡ t.log → IsMessageVerdict memory log v → IsMessageVerdict (memory_told t.image) t.log v
+verdict_on t memory log v of_memory of_log told = subst (λ (l : List Logged). IsMessageVerdict (memory_told t.image) l v) of_log (subst (λ (m : Option Initial). IsMessageVerdict m log v) of_memory told)

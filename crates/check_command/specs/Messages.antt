@@ -1,20 +1,19 @@
 -- What a check of messages has done.
 use Rattle.std.specs.Io.KnownBytes.{Appends}
-use Rattle.std.specs.Prelude.{◌≡◌, ◌↔◌, ◌⊎◌, ℕ, IfSome, List, Option}
+use Rattle.std.specs.Prelude.{◌≡◌, ◌⊎◌, ◌==◌, ℕ, IfSome, List, None, Option, Some, if◌then◌else◌, not}
+use Rattle.std.specs.List.{list_any}
 use Rattle.command_files.specs.Faults.{IsLongFirst, Name}
 use Rattle.check_command.specs.Checking.{GoOnBehindATrace, IsNoTraceText}
 use Rattle.command_files.specs.Contents.{Contents}
 use Rattle.command_files.specs.declared.fault.Fault.TheVariants.{BytesAfterTrace, CannotRead, CannotWrite, OutOfMemory, Text}
 use Rattle.command_files.specs.declared.fault.Fault.{Fault}
-use Rattle.lawful_log.specs.Laws.{IfUnlawful, IsFirstBreach}
-use Rattle.lawful_log.specs.declared.rule.LogVerdict.{LogVerdict}
-use Rattle.lawful_log.specs.declared.rule.LogVerdict.TheVariants.{Lawful}
+use Rattle.elf_loader.specs.Image.{Initial}
 use Rattle.log_text.specs.Ending.{ended}
 use Rattle.log_text.specs.Verdicts.{verdict_text}
-use Rattle.machine_model.specs.LawfulLog.{IsLawfulLog}
+use Rattle.message_judge.specs.Laws.{IsMessageVerdict}
+use Rattle.message_judge.specs.declared.verdict.MessageVerdict.{MessageVerdict}
 use Rattle.text_fields.specs.Writing.{Begins}
 use Rattle.trace_recorder.specs.History.{History}
-use Rattle.trace_recorder.specs.declared.logged.Logged.{Logged}
 use Rattle.trace_text.specs.TraceLimits.{IsTrace}
 use Rattle.trace_text.specs.Traces.{text}
 use Rattle.trace_text.specs.declared.fault.TextError.{TextError}
@@ -24,24 +23,23 @@ pub record HoldsLog (held : Contents) (name : List ℕ) (trace : History) : Type
   pub is_trace : IsTrace trace
   pub bytes : IfSome (held name) (λ known. ended known ≡ text trace)
 
--- the verdict on a log: lawful, or the first entry that breaks a rule, and the first rule that it breaks
-pub record IsLogVerdict (log : List Logged) (verdict : LogVerdict) : Type 0 where
-  pub lawful : (verdict ≡ Lawful) ↔ IsLawfulLog log
-  pub unlawful : IfUnlawful verdict (λ rule index. IsFirstBreach log rule index)
+-- memory at the start, if the trace tells of it: it has an I line for each line that isn't all zero
+abbrev pub memory_told : Initial → Option Initial
+memory_told image = if list_any (λ byte. not (byte == 0)) image.bytes then Some image else None
 
--- what was appended is the verdict on the log in the file
-pub record IsLogJudged (held : Contents) (name : List ℕ) (verdict : LogVerdict) (old new : Option (List ℕ)) : Type 0 where
+-- what was appended is the verdict on the messages of the trace in the file
+pub record IsLogJudged (held : Contents) (name : List ℕ) (verdict : MessageVerdict) (old new : Option (List ℕ)) : Type 0 where
   pub trace : History
   pub file : HoldsLog held name trace
-  pub judged : IsLogVerdict trace.log verdict
+  pub judged : IsMessageVerdict (memory_told trace.image) trace.log verdict
   pub printed : Appends old new (verdict_text verdict)
 
 -- the output took no more than a beginning of the verdict on the log in the file
 pub record IsLogCutOff (held : Contents) (name : List ℕ) (old new : Option (List ℕ)) : Type 0 where
   pub trace : History
-  pub verdict : LogVerdict
+  pub verdict : MessageVerdict
   pub file : HoldsLog held name trace
-  pub judged : IsLogVerdict trace.log verdict
+  pub judged : IsMessageVerdict (memory_told trace.image) trace.log verdict
   pub begun : Begins old new (verdict_text verdict)
 
 -- the file, with the lines that may be left out, begins with no trace's text, or already its first line is longer than that of any text

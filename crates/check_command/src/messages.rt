@@ -1,42 +1,46 @@
 //! `rvtl check --messages`: the log of a trace's messages is judged, and the verdict printed.
 
-ghost use Rattle.std.specs.Prelude.{◌≡◌, IfErr, IfOk};
+ghost use Rattle.std.specs.Prelude.{◌≡◌, ◌==◌, IfErr, IfOk, not};
+ghost use Rattle.std.specs.Option.{option_copied};
+ghost use Rattle.std.specs.List.{list_any};
 ghost use Rattle.text_fields.specs.Writing.{Writes};
 ghost use Rattle.log_text.specs.Verdicts.{verdict_text};
-ghost use Rattle.check_command.specs.Messages.{IsLogCutOff, IsLogFault, IsLogJudged};
+ghost use Rattle.check_command.specs.Messages.{IsLogCutOff, IsLogFault, IsLogJudged, memory_told};
 ghost use Rattle.command_files.specs.Faults.{LeavesAtFault};
 
 use crate::reading::whole_trace;
 use command_files::{Escaped, Fault, Files, remark, text_in};
-use lawful_log::{LogVerdict, check_log};
-use log_text::{Objection, end_text, line_of_message, put_verdict};
+use elf_loader::Image;
+use log_text::{Contradiction, Objection, end_text, line_of_message, put_verdict};
+use message_judge::{MessageBreach, MessageVerdict, judge_messages};
 use std::alloc::Global;
 use std::io::{self, Write};
 use trace_recorder::Trace;
 
-/// Reads a trace, or one that ends behind its messages, judges its log, and prints the verdict on `out`.
-/// Where the log isn't lawful, the line of the message that breaks a rule, and what stood against it, go to
-/// `err`.
+/// Reads a trace, or one that ends behind its messages, judges its log by the rules of the lawful log and of the
+/// coherent log, and prints the verdict on `out`. Memory begins as the trace's I lines say; where there is none with
+/// bytes that aren't known. Where the log isn't lawful, the line of the message that breaks a rule, and what stood
+/// against it, go to `err`.
 pub fn check_messages<'a, F: Files, O: Write, E: Write>(
     alloc: Global,
     files: &mut F,
     file: &'a str,
     out: &mut O,
     err: &mut E,
-) -> Result<LogVerdict, Fault<'a>>
+) -> Result<MessageVerdict, Fault<'a>>
     ensures judged { IfOk result (λ verdict. IsLogJudged (F.held files.old) file.entry.now verdict (O.contents out.old) (O.contents out.new)) }
     ensures unfinished { IfErr result (λ fault. LeavesAtFault fault (O.contents out.old) (O.contents out.new)
         (IsLogCutOff (F.held files.old) file.entry.now (O.contents out.old) (O.contents out.new))) }
     ensures told { IfErr result (IsLogFault (F.held files.old) file.entry) }
     ensures spared { F.held files.new ≡ F.held files.old }
-    ensures quiet { IfOk result (λ verdict. verdict ≡ LogVerdict.Lawful → E.contents err.new ≡ E.contents err.old) }
+    ensures quiet { IfOk result (λ verdict. verdict ≡ MessageVerdict.Lawful → E.contents err.new ≡ E.contents err.old) }
 {
     let mut bytes = text_in(alloc, files, file)?;
     let Ok(()) = end_text(&mut bytes) else {
         return Err(Fault::OutOfMemory);
     };
     let trace = whole_trace(alloc, files, file, bytes.as_slice())?;
-    let Ok(verdict) = check_log(alloc, trace.log()) else {
+    let Ok(verdict) = judge_messages(alloc, memory_at_start(&trace), trace.log()) else {
         return Err(Fault::OutOfMemory);
     };
     if trace.log().is_empty() {
@@ -54,7 +58,28 @@ pub fn check_messages<'a, F: Files, O: Write, E: Write>(
     Ok(verdict)
 }
 
-fn print<O: Write>(verdict: LogVerdict, out: &mut O) -> io::Result<()>
+/// The image, if an I line tells of it.
+fn memory_at_start(trace: &Trace) -> Option<&Image>
+    ensures { option_copied result ≡ memory_told trace.now.history.image }
+{
+    let image = trace.image();
+    if is_told(image) { Some(image) } else { None }
+}
+
+/// Whether a byte isn't zero, as an I line tells.
+fn is_told(image: &Image) -> bool
+    ensures { result ≡ list_any (λ byte. not (byte == 0)) image.now.bytes }
+{
+    image.bytes().iter().any(|byte| is_told_of(*byte))
+}
+
+fn is_told_of(byte: u8) -> bool
+    ensures { result ≡ not (byte == 0) }
+{
+    byte != 0
+}
+
+fn print<O: Write>(verdict: MessageVerdict, out: &mut O) -> io::Result<()>
     ensures { Writes (O.contents out.old) (O.contents out.new) (verdict_text verdict) result }
 {
     put_verdict(verdict, out)?;
@@ -66,20 +91,29 @@ fn object<E: Write>(
     file: &str,
     bytes: &[u8],
     trace: &Trace,
-    verdict: LogVerdict,
+    verdict: MessageVerdict,
     err: &mut E,
 ) -> io::Result<()>
-    ensures { verdict ≡ LogVerdict.Lawful → E.contents err.new ≡ E.contents err.old }
+    ensures { verdict ≡ MessageVerdict.Lawful → E.contents err.new ≡ E.contents err.old }
 {
-    let LogVerdict::Unlawful { rule, index } = verdict else {
+    let MessageVerdict::Unlawful { breach, index } = verdict else {
         return Ok(());
     };
+    let name = Escaped(file);
     let line = line_of_message(bytes, index).unwrap_or(0);
-    match Objection::to(trace.log(), rule, index, trace.harts() as u8) {
-        Some(objection) => {
-            let name = Escaped(file);
-            writeln!(err, "rvtl: {name}: line {line}: {objection}")
+    match breach {
+        MessageBreach::Unlawful(rule) => {
+            let harts = trace.harts() as u8;
+            match Objection::to(trace.log(), rule, index, harts) {
+                Some(objection) => writeln!(err, "rvtl: {name}: line {line}: {objection}"),
+                None => Ok(()),
+            }
         }
-        None => Ok(()),
+        MessageBreach::Incoherent(breach) => {
+            match Contradiction::of(bytes, trace.log(), breach, index) {
+                Some(contradiction) => writeln!(err, "rvtl: {name}: line {line}: {contradiction}"),
+                None => Ok(()),
+            }
+        }
     }
 }

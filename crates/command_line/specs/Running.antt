@@ -28,8 +28,8 @@ use Rattle.command_settings.specs.declared.wanted.Settings.TheVariants.{Chart, C
 use Rattle.command_settings.specs.declared.wanted.Show.{Show as Showing}
 use Rattle.event_stream.specs.declared.strictness.Strictness.{Strictness}
 use Rattle.event_stream.specs.declared.strictness.Strictness.TheVariants.{Lenient, Strict}
-use Rattle.lawful_log.specs.declared.rule.LogRule.{LogRule}
-use Rattle.lawful_log.specs.declared.rule.LogVerdict.TheVariants.{Lawful, Unlawful}
+use Rattle.message_judge.specs.declared.verdict.MessageBreach.{MessageBreach}
+use Rattle.message_judge.specs.declared.verdict.MessageVerdict.TheVariants.{Lawful, Unlawful}
 use Rattle.rvwmo_order.specs.declared.verdict.Code.{Code}
 use Rattle.rvwmo_order.specs.declared.verdict.Verdict.TheVariants.{Fault, Legal}
 use Rattle.text_fields.specs.Writing.{Begins}
@@ -51,7 +51,7 @@ IsClean false held check old new = IsVerdictTold held check.trace.now check.mode
 -- it is not, and what shows it was printed
 abbrev pub IsUnclean : (of_messages : Bool) → Contents → Judging → Option (List ℕ) → Option (List ℕ) → Type 0
 IsUnclean true held check old new =
-    (rule : LogRule) × (index : ℕ) × IsLogJudged held check.trace.now (Unlawful rule index) old new
+    (breach : MessageBreach) × (index : ℕ) × IsLogJudged held check.trace.now (Unlawful breach index) old new
 IsUnclean false held check old new =
     (code : Code) × (a : OpId) × (b : OpId) × IsVerdictTold held check.trace.now check.model (Fault code a b) old new
 

@@ -16,7 +16,7 @@ use command_files::{Fault, Files, Unshown};
 use command_settings::{Check, Explore, Settings, Show};
 use event_stream::Strictness;
 use explore_command::{Judgement, architecture_files, explore_files, sample_files, show_files};
-use lawful_log::LogVerdict;
+use message_judge::MessageVerdict;
 use progress_line::Progress;
 use run_command::run_files;
 use rvwmo_order::Verdict;
@@ -169,8 +169,11 @@ fn checked<'a, F: Files, O: Write, E: Write>(
 {
     if wanted.messages {
         return match check_messages(alloc, files, wanted.trace, out, err)? {
-            LogVerdict::Lawful => Ok(Judgement::Allowed),
-            LogVerdict::Unlawful { rule: _, index: _ } => Ok(Judgement::NotAllowed),
+            MessageVerdict::Lawful => Ok(Judgement::Allowed),
+            MessageVerdict::Unlawful {
+                breach: _,
+                index: _,
+            } => Ok(Judgement::NotAllowed),
         };
     }
     match check_file(alloc, files, wanted.trace, wanted.model, out)? {

@@ -1,3 +1,4 @@
+pub mod Contradictions
 pub mod Ending
 pub mod Objections
 pub mod Places

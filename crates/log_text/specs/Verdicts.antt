@@ -1,9 +1,9 @@
--- The verdict on a log, as a line.
+-- The verdict on the messages of a log, as a line.
 use Rattle.std.specs.Prelude.{ℕ, List, ◌++◌, codes, decimal}
-use Rattle.lawful_log.specs.Rules.{rule_name}
-use Rattle.lawful_log.specs.declared.rule.LogVerdict.{LogVerdict}
-use Rattle.lawful_log.specs.declared.rule.LogVerdict.TheVariants.{Lawful, Unlawful}
+use Rattle.message_judge.specs.Names.{rule_name}
+use Rattle.message_judge.specs.declared.verdict.MessageVerdict.{MessageVerdict}
+use Rattle.message_judge.specs.declared.verdict.MessageVerdict.TheVariants.{Lawful, Unlawful}
 
-abbrev pub verdict_text : LogVerdict → List ℕ
+abbrev pub verdict_text : MessageVerdict → List ℕ
 verdict_text Lawful = codes "lawful\n"
-verdict_text (Unlawful rule index) = codes "unlawful " ++ (rule_name rule ++ (codes " " ++ (decimal index ++ codes "\n")))
+verdict_text (Unlawful breach index) = codes "unlawful " ++ (rule_name breach ++ (codes " " ++ (decimal index ++ codes "\n")))

@@ -2,12 +2,15 @@
 //! the text a message stands, and what stands against it in words.
 #![tactic(auto)]
 
+mod contradiction;
 mod ending;
 mod objection;
 mod place;
+mod spelling;
 mod verdict;
 mod waiting;
 
+pub use contradiction::Contradiction;
 pub use ending::end_text;
 pub use objection::Objection;
 pub use place::line_of_message;

@@ -1,11 +1,12 @@
 //! What stands against a message, in words.
 ghost use Rattle.log_text.specs.Objections.{ObjectsTo};
 
+use crate::spelling::{Routed, Spelt, is_spelt_alike};
 use crate::waiting::{awaits_release_ack, front_of};
 use lawful_log::{Awaited, LogRule, first_awaited};
 use std::fmt;
 use std::fmt::Display;
-use tl_types::{Body, Cap, Change, Channel, Grow, Msg};
+use tl_types::Msg;
 use trace_recorder::Logged;
 
 /// An entry that breaks a rule of the lawful log, and what stands against it. Its text is as
@@ -65,12 +66,7 @@ impl Objection {
 
 impl Display for Objection {
     fn fmt<W: fmt::Write>(&self, f: &mut fmt::Formatter<W>) -> fmt::Result {
-        let hart = self.entry.hart;
-        let message = Spelt(self.entry.message);
-        match self.entry.message.channel() {
-            Channel::A | Channel::C | Channel::E => write!(f, "{message} from hart {hart}: ")?,
-            Channel::B | Channel::D => write!(f, "{message} to hart {hart}: ")?,
-        }
+        write!(f, "{}: ", Routed(self.entry))?;
         self.put_cause(f)
     }
 }
@@ -87,79 +83,5 @@ fn put_front<W: fmt::Write>(
             f.write_str("the message in front of its queue has other bytes")
         }
         Some(front) => write!(f, "{} is in front of its queue", Spelt(front)),
-    }
-}
-
-/// A message as a trace spells it, without the bytes that it carries.
-#[derive(Drop)]
-struct Spelt(Msg);
-
-impl Display for Spelt {
-    fn fmt<W: fmt::Write>(&self, f: &mut fmt::Formatter<W>) -> fmt::Result {
-        let name = name(&self.0.body);
-        let permissions = permissions(&self.0.body);
-        write!(f, "{name} {:#010x}{permissions}", self.0.line)
-    }
-}
-
-// Whether two messages are the same but for the bytes that they carry.
-fn is_spelt_alike(first: &Msg, second: &Msg) -> bool {
-    first.line == second.line
-        && name(&first.body) == name(&second.body)
-        && permissions(&first.body) == permissions(&second.body)
-}
-
-fn name(body: &Body) -> &'static str {
-    match body {
-        Body::AcquireBlock(_) => "AcquireBlock",
-        Body::ProbeBlock(_) => "ProbeBlock",
-        Body::ProbeAck(_) => "ProbeAck",
-        Body::ProbeAckData { .. } => "ProbeAckData",
-        Body::Release(_) => "Release",
-        Body::ReleaseData { .. } => "ReleaseData",
-        Body::Grant(_) => "Grant",
-        Body::GrantData { .. } => "GrantData",
-        Body::ReleaseAck => "ReleaseAck",
-        Body::GrantAck => "GrantAck",
-    }
-}
-
-/// The permissions that a message names, behind a space, if it names some.
-fn permissions(body: &Body) -> &'static str {
-    match body {
-        Body::AcquireBlock(grow) => grow_name(*grow),
-        Body::ProbeBlock(cap) | Body::Grant(cap) | Body::GrantData { cap, .. } => cap_name(*cap),
-        Body::ProbeAck(change)
-        | Body::ProbeAckData { change, .. }
-        | Body::Release(change)
-        | Body::ReleaseData { change, .. } => change_name(*change),
-        Body::ReleaseAck | Body::GrantAck => "",
-    }
-}
-
-fn grow_name(grow: Grow) -> &'static str {
-    match grow {
-        Grow::NtoB => " NtoB",
-        Grow::NtoT => " NtoT",
-        Grow::BtoT => " BtoT",
-    }
-}
-
-fn cap_name(cap: Cap) -> &'static str {
-    match cap {
-        Cap::ToT => " toT",
-        Cap::ToB => " toB",
-        Cap::ToN => " toN",
-    }
-}
-
-fn change_name(change: Change) -> &'static str {
-    match change {
-        Change::TtoB => " TtoB",
-        Change::TtoN => " TtoN",
-        Change::BtoN => " BtoN",
-        Change::TtoT => " TtoT",
-        Change::BtoB => " BtoB",
-        Change::NtoN => " NtoN",
     }
 }
