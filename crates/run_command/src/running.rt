@@ -15,18 +15,21 @@ ghost use Rattle.trace_text.specs.Traces.{text as trace_text};
 
 use crate::limits::LimitNote;
 use command_files::{
-    Fault, Files, check_writable, image_in, named_config, out_of_limits, print_ends, remark,
-    script_of, unmade,
+    Fault, Files, check_writable, named_config, out_of_limits, print_ends, remark, script_of,
+    unmade,
 };
 use command_settings::Run;
+use elf_symbols::Symbols;
 use host_threads::{Gate, Report, RunError, run};
 use machine_traces::every_trace_has_a_text;
 use progress_line::{Progress, Stage};
+use script_commands::{NamedImage, named_image_in};
 use std::alloc::Global;
 use std::io::Write;
 use std::sync::Wait;
 use std::sync::atomic::{AtomicU64, Ordering};
 use std::thread::Threads;
+use stop_text::StopNote;
 use trace_recorder::Trace;
 use trace_text::{Script, write_script, write_trace};
 
@@ -71,8 +74,8 @@ impl<P: Progress> Gate for Watch<'_, P> {
 /// Judges the machine's size, reads the image, runs it, writes the journal, and then prints the trace on
 /// `out` and each hart's end on `err`. Where the journal is not written nothing is printed. A journal in no
 /// folder, or over the image's file or standard output by whatever name, is refused before the run, which can't be
-/// made again. Which
-/// limits ended the run before its harts is remarked. While it runs, `progress` is told how far it is.
+/// made again. Where
+/// and why harts stopped is remarked, and which limits ended the run before its harts. While it runs, `progress` is told how far it is.
 pub fn run_files<'a, R: Threads + Wait + Sync, F: Files, O: Write, E: Write, P: Progress + Sync>(
     rt: &R,
     alloc: Global,
@@ -96,7 +99,7 @@ pub fn run_files<'a, R: Threads + Wait + Sync, F: Files, O: Write, E: Write, P: 
     let Some(config) = named_config(wanted.machine) else {
         return Err(out_of_limits(alloc, files, wanted.machine));
     };
-    let image = image_in(
+    let NamedImage { image, names } = named_image_in(
         alloc,
         files,
         wanted.raw,
@@ -122,7 +125,7 @@ pub fn run_files<'a, R: Threads + Wait + Sync, F: Files, O: Write, E: Write, P: 
     } = report;
     let changes = journal.len();
     let script = script_of(config, wanted.machine.memory, journal);
-    remark_unended(alloc, files, &trace, changes, limit);
+    remark_ends(alloc, files, &trace, &names, changes, limit);
     keep(alloc, files, wanted.journal, &script)?;
     print(&trace, out)?;
     // Standard error has no other place to tell that it takes no more.
@@ -190,18 +193,29 @@ fn spare_output<'a, F: Files>(
     Ok(())
 }
 
-/// Remarks which limits ended the run before its harts, if any did: so many events changed the machine, and as many as
-/// the limit says were tried at most.
-fn remark_unended<F: Files>(alloc: Global, files: &mut F, trace: &Trace, changes: usize, limit: u64)
+/// Remarks where and why harts stopped, and which limits ended the run before its harts: so many events changed the
+/// machine, and as many as the limit says were tried at most.
+fn remark_ends<F: Files>(
+    alloc: Global,
+    files: &mut F,
+    trace: &Trace,
+    names: &Symbols,
+    changes: usize,
+    limit: u64,
+)
     ensures stays { F.held files.new ≡ F.held files.old }
 {
-    let note = LimitNote {
+    let stops = StopNote { trace, names };
+    let limits = LimitNote {
         trace,
         changes,
         tries: limit,
     };
-    if note.is_needed() {
-        remark(alloc, files, note);
+    match (stops.is_needed(), limits.is_needed()) {
+        (false, false) => {}
+        (true, false) => remark(alloc, files, stops),
+        (false, true) => remark(alloc, files, limits),
+        (true, true) => remark(alloc, files, format_args!("{stops}; {limits}")),
     }
 }
 

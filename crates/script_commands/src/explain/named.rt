@@ -2,6 +2,7 @@
 
 ghost use Rattle.std.specs.Prelude.{◌≡◌, IfErr, IfOk};
 ghost use Rattle.command_files.specs.Faults.{IsImageFault};
+ghost use Rattle.command_files.specs.Files.{HoldsImage};
 ghost use Rattle.command_files.specs.declared.fault.Fault.TheVariants.{OutOfMemory};
 ghost use Rattle.elf_loader.specs.Size.{IsMemoryKib};
 ghost use Rattle.script_commands.specs.Named.{HoldsNamedImage, names_in};
@@ -43,6 +44,7 @@ pub fn named_image_in<'a, F: Files>(
     requires { IsMemoryKib kib }
     ensures fault { IfErr result (IsImageFault (F.held files.old) is_raw name.entry kib) }
     ensures image { IfOk result (λ read. HoldsNamedImage (F.held files.old) is_raw name.entry.now kib read.image read.names) }
+    ensures loaded { IfOk result (λ read. HoldsImage (F.held files.old) is_raw name.entry.now kib read.image) }
     ensures stays { F.held files.new ≡ F.held files.old }
 {
     let bytes = contents(alloc, files, name)?;

@@ -8,14 +8,16 @@ ghost use Rattle.script_commands.specs.Replaying.{IsCutOff, IsReplayEndTold, IsR
 ghost use Rattle.command_files.specs.Faults.{IsImageFault, IsReadFault, IsScriptFault, LeavesAtFault};
 ghost use Rattle.command_files.specs.Faults.{IsReplayFault};
 
+use crate::explain::{NamedImage, named_image_in};
 use crate::replay::composing::{CompositionError, replay_and_write};
-use command_files::{Fault, Files, image_in, print_ends, remark_refused, script_in};
+use command_files::{Fault, Files, print_ends, remark, remark_refused, script_in};
 use command_settings::Replay;
 use std::alloc::Global;
 use std::io::Write;
+use stop_text::StopNote;
 
 /// Reads and judges the script, then the image, replays, and prints the trace on `out` and each hart's
-/// end on `err`. Where an event is refused nothing is printed.
+/// end on `err`; where and why harts stopped is remarked. Where an event is refused nothing is printed.
 pub fn replay_files<'a, F: Files, O: Write, E: Write>(
     alloc: Global,
     files: &mut F,
@@ -31,7 +33,13 @@ pub fn replay_files<'a, F: Files, O: Write, E: Write>(
     ensures spared { F.held files.new ≡ F.held files.old }
 {
     let script = script_in(alloc, files, wanted.script)?;
-    let image = image_in(alloc, files, wanted.raw, wanted.image, script.kib)?;
+    let NamedImage { image, names } = named_image_in(
+        alloc,
+        files,
+        wanted.raw,
+        wanted.image,
+        script.kib,
+    )?;
     let machine = match replay_and_write(alloc, image, &script, wanted.model, out) {
         Ok(machine) => machine,
         Err(CompositionError::Replay(error)) => {
@@ -47,5 +55,12 @@ pub fn replay_files<'a, F: Files, O: Write, E: Write>(
     let (trace, outputs) = machine.into_parts();
     // Standard error has no other place to tell that it takes no more.
     let _ = print_ends(trace.statuses(), outputs.as_slice(), err);
+    let stops = StopNote {
+        trace: &trace,
+        names: &names,
+    };
+    if stops.is_needed() {
+        remark(alloc, files, stops);
+    }
     Ok(())
 }

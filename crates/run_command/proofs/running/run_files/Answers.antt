@@ -75,7 +75,7 @@ not_before fault late never is before = elim is [
 pub print-requires : goal.print-requires
 print-requires g c =
     subst IsTrace (sym c.in-Ok.ensures.report.trace)
-    (readable c.every_trace_has_a_text.ensures (end_of_journal c.in_ok-image.image c.in-Some.config c.in-Ok.report) c.in-Ok.ensures.reached)
+    (readable c.every_trace_has_a_text.ensures (end_of_journal c.in_ok-image.field-0.image c.in-Some.config c.in-Ok.report) c.in-Ok.ensures.reached)
 
 pub returns-in_err-print-clause-told : goal.returns-in_err-print-clause-told
 returns-in_err-print-clause-told g c =
@@ -85,7 +85,7 @@ pub returns-in_err-print-clause-unfinished : goal.returns-in_err-print-clause-un
 returns-in_err-print-clause-unfinished g c =
     let run = c.args.wanted in
     let script = c.script_of-script.result in
-    let image = c.in_ok-image.image in
+    let image = c.in_ok-image.field-0.image in
     let s = end_of_journal image c.in-Some.config c.in-Ok.report in
     let named = c.in-Some.ensures.config in
     let same = c.script_of-script.ensures.script in
@@ -96,19 +96,19 @@ returns-in_err-print-clause-unfinished g c =
       script = script;
       image = image;
       reached = s;
-      kept = kept _ _ c.in-Some.config run image script c.in-Ok.report.journal.items named.0 named.1 same c.in_ok-image.ensures.image c.script_of-script.ensures.events c.in_ok-keep.ensures.kept c.in-Ok.ensures.moves (omega (arith, c.in-Ok.ensures.limit.events, c.from-limit.ensures));
+      kept = kept _ _ c.in-Some.config run image script c.in-Ok.report.journal.items named.0 named.1 same c.in_ok-image.ensures.loaded c.script_of-script.ensures.events c.in_ok-keep.ensures.kept c.in-Ok.ensures.moves (omega (arith, c.in-Ok.ensures.limit.events, c.from-limit.ensures));
       replayed = leads_there image script run.machine.model c.in-Some.config c.in-Ok.report.journal.items s config_same (sym (ap (λ (t : Script). t.events) same)) c.in-Ok.ensures.replays;
       begun = begun_same _ _ _ _ c.in-Ok.ensures.report.trace c.in_err-print.ensures.begun;
     }))
 
 pub returns-in_err-print-clause-spared : goal.returns-in_err-print-clause-spared
-returns-in_err-print-clause-spared g c = λ other another. c.keep.ensures.others other another ∙ ap (λ (h : Contents). h other) (c.remark_unended.ensures.stays ∙ (c.check_journal.ensures.stays ∙ c.in_ok-image.ensures.stays))
+returns-in_err-print-clause-spared g c = λ other another. c.keep.ensures.others other another ∙ ap (λ (h : Contents). h other) (c.remark_ends.ensures.stays ∙ (c.check_journal.ensures.stays ∙ c.in_ok-image.ensures.stays))
 
 pub returns-clause-ran : goal.returns-clause-ran
 returns-clause-ran g c =
     let run = c.args.wanted in
     let script = c.script_of-script.result in
-    let image = c.in_ok-image.image in
+    let image = c.in_ok-image.field-0.image in
     let s = end_of_journal image c.in-Some.config c.in-Ok.report in
     let named = c.in-Some.ensures.config in
     let same = c.script_of-script.ensures.script in
@@ -118,7 +118,7 @@ returns-clause-ran g c =
       script = script;
       image = image;
       reached = s;
-      kept = kept _ _ c.in-Some.config run image script c.in-Ok.report.journal.items named.0 named.1 same c.in_ok-image.ensures.image c.script_of-script.ensures.events c.in_ok-keep.ensures.kept c.in-Ok.ensures.moves (omega (arith, c.in-Ok.ensures.limit.events, c.from-limit.ensures));
+      kept = kept _ _ c.in-Some.config run image script c.in-Ok.report.journal.items named.0 named.1 same c.in_ok-image.ensures.loaded c.script_of-script.ensures.events c.in_ok-keep.ensures.kept c.in-Ok.ensures.moves (omega (arith, c.in-Ok.ensures.limit.events, c.from-limit.ensures));
       composed = record {
         replayed = leads_there image script run.machine.model c.in-Some.config c.in-Ok.report.journal.items s config_same (sym (ap (λ (t : Script). t.events) same)) c.in-Ok.ensures.replays;
         printed = printed_same _ _ _ _ trace_same c.in_ok-print.ensures.printed;
@@ -132,7 +132,7 @@ pub returns-clause-ends : goal.returns-clause-ends
 returns-clause-ends g c =
     let run = c.args.wanted in
     let script = c.script_of-script.result in
-    let image = c.in_ok-image.image in
+    let image = c.in_ok-image.field-0.image in
     let s = end_of_journal image c.in-Some.config c.in-Ok.report in
     let named = c.in-Some.ensures.config in
     let same = c.script_of-script.ensures.script in
@@ -141,13 +141,13 @@ returns-clause-ends g c =
       script = script;
       image = image;
       reached = s;
-      kept = kept _ _ c.in-Some.config run image script c.in-Ok.report.journal.items named.0 named.1 same c.in_ok-image.ensures.image c.script_of-script.ensures.events c.in_ok-keep.ensures.kept c.in-Ok.ensures.moves (omega (arith, c.in-Ok.ensures.limit.events, c.from-limit.ensures));
+      kept = kept _ _ c.in-Some.config run image script c.in-Ok.report.journal.items named.0 named.1 same c.in_ok-image.ensures.loaded c.script_of-script.ensures.events c.in_ok-keep.ensures.kept c.in-Ok.ensures.moves (omega (arith, c.in-Ok.ensures.limit.events, c.from-limit.ensures));
       replayed = leads_there image script run.machine.model c.in-Some.config c.in-Ok.report.journal.items s config_same (sym (ap (λ (t : Script). t.events) same)) c.in-Ok.ensures.replays;
       begun = ends_begun (g.E.Write.contents c.args.err.now) (g.E.Write.contents c.print_ends.new.err) s _ c.statuses.result.now _ c.print_ends.result c.statuses.ensures c.in-Ok.ensures.report.trace (ap (map (λ output. output.items)) c.as_slice.ensures.value ∙ c.in-Ok.ensures.report.outputs) c.print_ends.ensures;
     }
 
 pub returns-clause-spared : goal.returns-clause-spared
-returns-clause-spared g c = λ other another. c.keep.ensures.others other another ∙ ap (λ (h : Contents). h other) (c.remark_unended.ensures.stays ∙ (c.check_journal.ensures.stays ∙ c.in_ok-image.ensures.stays))
+returns-clause-spared g c = λ other another. c.keep.ensures.others other another ∙ ap (λ (h : Contents). h other) (c.remark_ends.ensures.stays ∙ (c.check_journal.ensures.stays ∙ c.in_ok-image.ensures.stays))
 
 pub returns-in_err-print-clause-untouched : goal.returns-in_err-print-clause-untouched
 returns-in_err-print-clause-untouched g c =
@@ -158,7 +158,7 @@ returns-in_err-keep-clause-untouched g c =
     handed_up _ c.from_residual-in_err-keep.result _ c.from_residual-in_err-keep.ensures.1 (λ before. absurd (not_before _ (CannotMake c.args.wanted.journal) (λ b. b) c.in_err-keep.ensures.told before))
 
 pub returns-in_err-print-clause-image : goal.returns-in_err-print-clause-image
-returns-in_err-print-clause-image g c = c.keep.ensures.others c.args.wanted.image.now c.in_ok-check_journal.ensures.apart ∙ ap (λ (h : Contents). h c.args.wanted.image.now) (c.remark_unended.ensures.stays ∙ (c.check_journal.ensures.stays ∙ c.in_ok-image.ensures.stays))
+returns-in_err-print-clause-image g c = c.keep.ensures.others c.args.wanted.image.now c.in_ok-check_journal.ensures.apart ∙ ap (λ (h : Contents). h c.args.wanted.image.now) (c.remark_ends.ensures.stays ∙ (c.check_journal.ensures.stays ∙ c.in_ok-image.ensures.stays))
 
 pub returns-clause-image : goal.returns-clause-image
-returns-clause-image g c = c.keep.ensures.others c.args.wanted.image.now c.in_ok-check_journal.ensures.apart ∙ ap (λ (h : Contents). h c.args.wanted.image.now) (c.remark_unended.ensures.stays ∙ (c.check_journal.ensures.stays ∙ c.in_ok-image.ensures.stays))
+returns-clause-image g c = c.keep.ensures.others c.args.wanted.image.now c.in_ok-check_journal.ensures.apart ∙ ap (λ (h : Contents). h c.args.wanted.image.now) (c.remark_ends.ensures.stays ∙ (c.check_journal.ensures.stays ∙ c.in_ok-image.ensures.stays))

@@ -62,12 +62,12 @@ returns-clause-replayed g c =
     let composed = c.in-Ok.ensures.written in
     record {
       script = c.in_ok-script.script;
-      image = c.in_ok-image.image;
+      image = c.in_ok-image.field-0.image;
       reached = c.in-Ok.machine;
       script_file = c.in_ok-script.ensures.script;
       image_file =
-          subst (λ (held : Contents). HoldsImage held c.args.wanted.raw c.args.wanted.image.now c.in_ok-script.script.kib c.in_ok-image.image)
-          c.in_ok-script.ensures.stays c.in_ok-image.ensures.image;
+          subst (λ (held : Contents). HoldsImage held c.args.wanted.raw c.args.wanted.image.now c.in_ok-script.script.kib c.in_ok-image.field-0.image)
+          c.in_ok-script.ensures.stays c.in_ok-image.ensures.loaded;
       only = c.in_ok-script.ensures.only;
       composed = record {
         replayed = composed.replayed;
@@ -84,18 +84,18 @@ returns-clause-ends g c =
     let told = c.into_parts-trace in
     record {
       script = c.in_ok-script.script;
-      image = c.in_ok-image.image;
+      image = c.in_ok-image.field-0.image;
       reached = machine;
       script_file = c.in_ok-script.ensures.script;
       image_file =
-          subst (λ (held : Contents). HoldsImage held c.args.wanted.raw c.args.wanted.image.now c.in_ok-script.script.kib c.in_ok-image.image)
-          c.in_ok-script.ensures.stays c.in_ok-image.ensures.image;
+          subst (λ (held : Contents). HoldsImage held c.args.wanted.raw c.args.wanted.image.now c.in_ok-script.script.kib c.in_ok-image.field-0.image)
+          c.in_ok-script.ensures.stays c.in_ok-image.ensures.loaded;
       replayed = c.in-Ok.ensures.written.replayed;
       begun = ends_begun (g.E.Write.contents c.args.err.now) (g.E.Write.contents c.print_ends.new.err) machine _ c.statuses.result.now _ c.print_ends.result c.statuses.ensures told.ensures.trace (ap (map (λ output. output.items)) c.as_slice.ensures.value ∙ told.ensures.outputs) c.print_ends.ensures;
     }
 
-pub image_in-requires : goal.image_in-requires
-image_in-requires g c = memory_within c.in_ok-script.script c.in_ok-script.ensures.script.is_script
+pub named_image_in-requires : goal.named_image_in-requires
+named_image_in-requires g c = memory_within c.in_ok-script.script c.in_ok-script.ensures.script.is_script
 
 pub returns-in_err-script-clause-unfinished : goal.returns-in_err-script-clause-unfinished
 returns-in_err-script-clause-unfinished g c =
@@ -122,8 +122,8 @@ returns-in-Err-Replay-clause-unfinished g c =
 
 pub returns-in-Err-Replay-clause-told : goal.returns-in-Err-Replay-clause-told
 returns-in-Err-Replay-clause-told g c =
-    told_of _ c.args.wanted c.in_ok-script.script c.in_ok-image.image c.in-Err-Replay.error _ c.in_ok-script.ensures.script
-    (subst (λ (held : Contents). HoldsImage held c.args.wanted.raw c.args.wanted.image.now c.in_ok-script.script.kib c.in_ok-image.image) c.in_ok-script.ensures.stays c.in_ok-image.ensures.image)
+    told_of _ c.args.wanted c.in_ok-script.script c.in_ok-image.field-0.image c.in-Err-Replay.error _ c.in_ok-script.ensures.script
+    (subst (λ (held : Contents). HoldsImage held c.args.wanted.raw c.args.wanted.image.now c.in_ok-script.script.kib c.in_ok-image.field-0.image) c.in_ok-script.ensures.stays c.in_ok-image.ensures.loaded)
     (rw c.in-Err-Replay.field-0-is at c.in-Err-Replay.ensures.unfinished).1
     c.replay-fault.ensures.told
 
@@ -133,12 +133,12 @@ returns-in-Err-Writing-clause-unfinished g c =
     spoiled _ _ _ _ c.writing.ensures.told
     (record {
       script = c.in_ok-script.script;
-      image = c.in_ok-image.image;
+      image = c.in_ok-image.field-0.image;
       reached = cut.0;
       script_file = c.in_ok-script.ensures.script;
       image_file =
-          subst (λ (held : Contents). HoldsImage held c.args.wanted.raw c.args.wanted.image.now c.in_ok-script.script.kib c.in_ok-image.image)
-          c.in_ok-script.ensures.stays c.in_ok-image.ensures.image;
+          subst (λ (held : Contents). HoldsImage held c.args.wanted.raw c.args.wanted.image.now c.in_ok-script.script.kib c.in_ok-image.field-0.image)
+          c.in_ok-script.ensures.stays c.in_ok-image.ensures.loaded;
       replayed = cut.1;
       begun = cut.2;
     })
@@ -149,12 +149,12 @@ returns-in-Err-clause-unfinished g c =
     spoiled _ _ _ _ c.writing-in-Err.ensures.told
     (record {
       script = c.in_ok-script.script;
-      image = c.in_ok-image.image;
+      image = c.in_ok-image.field-0.image;
       reached = c.in-Ok.machine;
       script_file = c.in_ok-script.ensures.script;
       image_file =
-          subst (λ (held : Contents). HoldsImage held c.args.wanted.raw c.args.wanted.image.now c.in_ok-script.script.kib c.in_ok-image.image)
-          c.in_ok-script.ensures.stays c.in_ok-image.ensures.image;
+          subst (λ (held : Contents). HoldsImage held c.args.wanted.raw c.args.wanted.image.now c.in_ok-script.script.kib c.in_ok-image.field-0.image)
+          c.in_ok-script.ensures.stays c.in_ok-image.ensures.loaded;
       replayed = composed.replayed;
       begun = all_begun _ _ _ _ composed.printed c.flush.ensures.bytes;
     })
