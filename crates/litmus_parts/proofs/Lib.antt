@@ -1,0 +1,3 @@
+pub mod Reading
+pub mod Adding
+pub mod Loops

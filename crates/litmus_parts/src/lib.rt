@@ -1,0 +1,16 @@
+//! Parts of a litmus test's text, as herd7 has it: the first lines, the initial values, the head and the cells of its columns.
+#![tactic(auto)]
+
+mod header;
+mod initial;
+mod places;
+mod rows;
+mod scanning;
+mod stop;
+
+pub use header::header_at;
+pub use initial::{Initial, MOST_HARTS, Width, values_at};
+pub use places::{Place, Value, is_same_name, is_same_place, place_at, value_at};
+pub use rows::{Item, head_at, instruction_at, is_end, label_at};
+pub use scanning::{expect, is_same, keyword_at};
+pub use stop::{Cause, Fault, Section, Stop, line_of};
