@@ -20,6 +20,9 @@ use tl_types::Channel;
 /// The word that the programs load and store, at the beginning of its line.
 const WORD: u32 = 0x8000_0100;
 
+/// The lines that are looked at behind each event: the word's, the program's and one that nobody asks for.
+static LINES: [u32; 3] = [WORD, 0x8000_0000, 0x8000_0110];
+
 const LINE_BYTES: u32 = 16;
 
 static MODELS: [(&str, MemoryModel); 2] = [
@@ -60,11 +63,12 @@ fn play(pair: &mut Pair) -> Result<()> {
     for index in 1..=EVENTS {
         let event = event_of(numbers.below(18));
         met.count(pair.apply(event)?);
-        let is_looked_at = index % 1000 == 0;
-        ensure!(
-            !is_looked_at || pair.is_alike(WORD),
-            "views differ behind event {index}"
-        );
+        for line in &LINES {
+            ensure!(
+                pair.is_alike(*line),
+                "views of {line:#x} differ behind event {index}"
+            );
+        }
     }
     match met.missing() {
         Some(outcome) => bail!("{outcome:?} isn't met"),
