@@ -4,15 +4,16 @@
 usage: tools/rooms.py     (from the top of the repository)
 
 crates.txt lists the crates by room: a line `# Room NAME: what it has`, and below it the room's crates. A crate may stand on
-crates of its own room and of rooms above it in that list. The status is 1 where one doesn't, and each is told."""
+crates of its own room and of rooms above it in that list. The status is 1 where one doesn't, or stands there twice, and each
+is told."""
 import collections
 import os
 import sys
 
 
 def read_rooms(lines):
-    """Returns each crate's room, by its number, with the crates that it stands on; and the rooms' names."""
-    rooms, crates = [], {}
+    """Returns the rooms' names; each crate's room, by its number, with the crates that it stands on; and who is listed twice."""
+    rooms, crates, twice = [], {}, []
     for line in lines:
         if line.startswith("# Room "):
             rooms.append(line.removeprefix("# Room ").partition(":")[0])
@@ -20,14 +21,17 @@ def read_rooms(lines):
             continue
         elif line.strip():
             head, _, below = line.partition(":")
-            crates[head.split()[0]] = (len(rooms) - 1, below.split())
-    return rooms, crates
+            name = head.split()[0]
+            twice += [name] * (name in crates)
+            crates[name] = (len(rooms) - 1, below.split())
+    return rooms, crates, twice
 
 
 def main():
     with open("crates.txt", encoding="utf-8") as file:
-        rooms, crates = read_rooms(file.read().splitlines())
-    faults = [f"{name} has no room" for name, (room, _) in crates.items() if room < 0]
+        rooms, crates, twice = read_rooms(file.read().splitlines())
+    faults = [f"{name} is on two lines" for name in twice]
+    faults += [f"{name} has no room" for name, (room, _) in crates.items() if room < 0]
     faults += [f"{name} is listed, and isn't there" for name in crates if not os.path.isdir(f"crates/{name}/src")]
     for name, (room, below) in crates.items():
         for other in below:
