@@ -119,6 +119,15 @@ labels_more hart front name left most taken rest later total lt place is h =
     let step : onto front (labels_at hart (suc (most - (taken + 1))) rest) ≡ onto front (onto (Label hart name left ∷ []) (labels_at hart (most - (taken + 1)) later)) = rw (sym is, sym place) refl in
     sym (onto_append front (Label hart name left ∷ []) (labels_at hart (most - (taken + 1)) later)) ∙ sym step ∙ labels_now hart front most taken rest total lt h
 
+pub labels_put : (hart : ℕ) (front new : List Item) (name behind : List ℕ) (left most taken : ℕ) (rest later : List ℕ) (total : Read (List Item)) → taken < most → left ≡ length (skip rest) → Some (name, behind) ≡ label_at rest → onto front (Ok (Label hart name left ∷ [], behind)) ≡ Ok (new, later) → onto front (labels_at hart (most - taken) rest) ≡ total → onto new (labels_at hart (most - (taken + 1)) later) ≡ total
+labels_put hart front new name behind left most taken rest later total lt place is put h =
+    let both : (front ++ Label hart name left ∷ [], behind) ≡ (new, later) = cc put in
+    let same : new ≡ front ++ Label hart name left ∷ [] = sym (ap (λ (p : List Item × List ℕ). p.0) both) in
+    let there : later ≡ behind = sym (ap (λ (p : List Item × List ℕ). p.1) both) in
+    ap (λ (l : List Item). onto l (labels_at hart (most - (taken + 1)) later)) same
+    ∙ ap (λ (r : List ℕ). onto (front ++ Label hart name left ∷ []) (labels_at hart (most - (taken + 1)) r)) there
+    ∙ labels_more hart front name left most taken rest behind total lt place is h
+
 pub labels_end : (hart : ℕ) (front : List Item) (most taken : ℕ) (rest : List ℕ) (total : Read (List Item)) → taken < most → None ≡ label_at rest → onto front (labels_at hart (most - taken) rest) ≡ total → total ≡ Ok (front, rest)
 unfolding labels_at
 labels_end hart front most taken rest total lt is h =

@@ -43,3 +43,13 @@ refuses_is (At cause left) read h = h
 pub refuses_later : {Y W : Type 0} (stop : Stop) (read : Result Y Stop) (x : Y) (more : Y → Result W Stop) → read ≡ Ok x → Refuses stop (more x) → Refuses stop (read >>= more)
 refuses_later Memory read x more h k = tt
 refuses_later (At cause left) read x more h k = rw h k
+
+-- it stops, whatever stands before
+pub refuses_onto : {A : Type 0} (old : List A) (stop : Stop) (read : Read (List A)) → Refuses stop (onto old read) → Refuses stop read
+refuses_onto old Memory read h = tt
+refuses_onto old (At cause left) read h = onto_err old (At cause left) read h
+
+-- what is read stops only by want of memory
+pub refuses_ok : {Y W : Type 0} (stop : Stop) (y : Y) (read : Result W Stop) → Refuses stop (Ok y) → Refuses stop read
+refuses_ok Memory y read h = tt
+refuses_ok (At cause left) y read h = absurd (cc h)

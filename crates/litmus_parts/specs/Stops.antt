@@ -48,9 +48,19 @@ fault_of causes.FewLabels = Some faults.Limit
 fault_of causes.FewPlaces = Some faults.Limit
 fault_of causes.Shallow = Some faults.Limit
 fault_of causes.FewOperands = Some faults.Limit
+fault_of causes.Instruction = Some faults.Instruction
+fault_of causes.Immediate = Some faults.Instruction
+fault_of causes.Label = Some faults.Label
+fault_of causes.OtherLabel = Some faults.Label
+fault_of causes.Near = Some faults.Limit
+fault_of causes.FewInstructions = Some faults.Limit
+fault_of causes.FewLocations = Some faults.Limit
+fault_of causes.FewRegisters = Some faults.Limit
+fault_of causes.FewBytes = Some faults.Limit
 fault_of causes.OtherArchitecture = None
 fault_of causes.WideNumber = None
 fault_of causes.WideLocation = None
+fault_of causes.OtherInstruction = None
 
 -- stopped at what stands behind the blanks, or right here
 abbrev pub at : Cause → List ℕ → Stop

@@ -1,6 +1,7 @@
 //! Parts of a litmus test's text, as herd7 has it: the first lines, the initial values, the head and the cells of its columns.
 #![tactic(auto)]
 
+mod columns;
 mod header;
 mod initial;
 mod places;
@@ -8,9 +9,10 @@ mod rows;
 mod scanning;
 mod stop;
 
+pub use columns::columns_at;
 pub use header::header_at;
 pub use initial::{Initial, MOST_HARTS, Width, values_at};
 pub use places::{Place, Value, is_same_name, is_same_place, place_at, value_at};
-pub use rows::{Item, head_at, instruction_at, is_end, label_at};
+pub use rows::{Item, is_end};
 pub use scanning::{expect, is_same, keyword_at};
 pub use stop::{Cause, Fault, Section, Stop, line_of};

@@ -50,7 +50,7 @@ fn past_hart(hart: u8, bytes: &[u8]) -> Result<&[u8], Stop>
 }
 
 /// How many harts the head names, and what stands behind it.
-pub fn head_at(bytes: &[u8]) -> Result<(u8, &[u8]), Stop>
+pub(crate) fn head_at(bytes: &[u8]) -> Result<(u8, &[u8]), Stop>
     ensures value { seen (λ x. (x.0, x.1.now)) result ≡ rows.head_at 8 0 bytes.now }
     ensures few { IfOk result (λ x. x.0 ≤ 8) }
 {
@@ -70,7 +70,7 @@ pub fn head_at(bytes: &[u8]) -> Result<(u8, &[u8]), Stop>
 
 /// A label, and what stands behind its colon.
 #[tactic(auto, unfolding(crate::specs::Rows::label_at))]
-pub fn label_at(bytes: &[u8]) -> Option<(Name, &[u8])>
+pub(crate) fn label_at(bytes: &[u8]) -> Option<(Name, &[u8])>
     ensures { option_map (λ x. (x.0, x.1.now)) result ≡ rows.label_at bytes.now }
 {
     match name_at(bytes) {
@@ -84,7 +84,7 @@ pub fn label_at(bytes: &[u8]) -> Option<(Name, &[u8])>
 
 /// Adds what stands at the front up to the cell's end, and answers what stands behind that.
 #[tactic(auto, unfolding(crate::specs::Rows::instruction_at), using(crate::proofs::Adding::instruction_added, crate::proofs::Adding::instruction_misplaced))]
-pub fn instruction_at<'a>(
+pub(crate) fn instruction_at<'a>(
     hart: u8,
     end: u8,
     bytes: &'a [u8],

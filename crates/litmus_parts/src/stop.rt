@@ -93,14 +93,34 @@ pub enum Cause {
     FewPlaces,
     /// At most 64 levels of parentheses, negations and implications.
     Shallow,
-    /// At most 1,000 operands in a row.
+    /// At most 1,000 operands and operators.
     FewOperands,
+    /// An instruction of RV32IMA, other than AUIPC, JAL, JALR, ECALL and EBREAK; a branch leads to a label.
+    Instruction,
+    /// A number that the instruction can hold.
+    Immediate,
+    /// A label of the same column.
+    Label,
+    /// A label that stands only here in its column.
+    OtherLabel,
+    /// A label that the branch reaches.
+    Near,
+    /// At most 500 instructions in a column.
+    FewInstructions,
+    /// At most 64 locations.
+    FewLocations,
+    /// At most 30 of a hart's registers.
+    FewRegisters,
+    /// At most 1 MiB.
+    FewBytes,
     /// Another architecture.
     OtherArchitecture,
     /// A number past 32 bits.
     WideNumber,
     /// A location of 8 bytes.
     WideLocation,
+    /// An instruction of RV64 or of another extension.
+    OtherInstruction,
 }
 
 impl Cause {
@@ -132,8 +152,18 @@ impl Cause {
             | Cause::FewLabels
             | Cause::FewPlaces
             | Cause::Shallow
-            | Cause::FewOperands => Some(Fault::Limit),
-            Cause::OtherArchitecture | Cause::WideNumber | Cause::WideLocation => None,
+            | Cause::FewOperands
+            | Cause::Near
+            | Cause::FewInstructions
+            | Cause::FewLocations
+            | Cause::FewRegisters
+            | Cause::FewBytes => Some(Fault::Limit),
+            Cause::Instruction | Cause::Immediate => Some(Fault::Instruction),
+            Cause::Label | Cause::OtherLabel => Some(Fault::Label),
+            Cause::OtherArchitecture
+            | Cause::WideNumber
+            | Cause::WideLocation
+            | Cause::OtherInstruction => None,
         }
     }
 }
