@@ -1,0 +1,3 @@
+mod Inside
+mod Own
+mod Walked

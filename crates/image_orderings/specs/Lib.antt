@@ -1,0 +1,4 @@
+pub mod Forms
+pub mod Orderings
+pub mod Programs
+pub mod Replaced

@@ -1,0 +1,13 @@
+//! What orders memory operations in an image: which words do, what they are with less or more of it, and the image with
+//! words replaced.
+#![tactic(auto)]
+
+mod forms;
+mod orderings;
+mod programs;
+mod replacing;
+
+pub use forms::{is_weaker, strengthened, weaker_words, without};
+pub use orderings::{ImageOrdering, Part, orderings_of};
+pub use programs::{is_kept, own_patches, patches_with, patches_without, word_in};
+pub use replacing::{Patch, patched};
