@@ -101,7 +101,7 @@ operations_sorted place (m ∷ rest) h i j a b e f l = go m.operation refl i j e
 
 -- ---- nothing is placed yet
 
-remains : (model : MemoryModel) (image : ℕ → ℕ) (all : List (List Item)) (whole : List Operation) → Legal model image all whole → (h p : ℕ) (n : Node) → Listed h (items_of all h) → Kept model (items_of all h) h p n (operations_of (items_of all h)) → Remaining model all h [] whole n (operations_of (items_of all h))
+pub remains : (model : MemoryModel) (image : ℕ → ℕ) (all : List (List Item)) (whole : List Operation) → Legal model image all whole → (h p : ℕ) (n : Node) → Listed h (items_of all h) → Kept model (items_of all h) h p n (operations_of (items_of all h)) → Remaining model all h [] whole n (operations_of (items_of all h))
 remains model image all whole legal h p n listed kept = record {
   own = λ k a e. let o = kept.own k a e in record { item = o.item; stands = o.stands; gives = o.gives; hart_is = o.hart_is; before = omega arith; is = o.is };
   window = kept.window;
@@ -113,25 +113,25 @@ remains model image all whole legal h p n listed kept = record {
 
 -- ---- placing
 
-record HasHart (model : MemoryModel) (all : List (List Item)) (h : ℕ) (done rest : List Operation) (n : Node) : Type 0 where
-  ops : List Operation
-  kept : Remaining model all h done rest n ops
+pub record HasHart (model : MemoryModel) (all : List (List Item)) (h : ℕ) (done rest : List Operation) (n : Node) : Type 0 where
+  pub ops : List Operation
+  pub kept : Remaining model all h done rest n ops
 
 -- the system while `done` are placed
-record State (model : MemoryModel) (image : ℕ → ℕ) (all : List (List Item)) (done rest : List Operation) (s : System) : Type 0 where
-  holds : Holds image done s.memory
-  harts : (g : ℕ) (n : Node) → slice_get s.nodes g ≡ Some n → HasHart model all g done rest n
-  present : (a : Operation) → Member a rest → (n : Node) × (slice_get s.nodes a.hart ≡ Some n)
+pub record State (model : MemoryModel) (image : ℕ → ℕ) (all : List (List Item)) (done rest : List Operation) (s : System) : Type 0 where
+  pub holds : Holds image done s.memory
+  pub harts : (g : ℕ) (n : Node) → slice_get s.nodes g ≡ Some n → HasHart model all g done rest n
+  pub present : (a : Operation) → Member a rest → (n : Node) × (slice_get s.nodes a.hart ≡ Some n)
 
 -- what a hart shows at its end
-abbrev SameEnd : Node → Node → Type 0
+abbrev pub SameEnd : Node → Node → Type 0
 SameEnd n m = (n.hart ≡ m.hart) × (n.output ≡ m.output)
 
-same_ends : (nodes : List Node) → Pairs SameEnd nodes nodes
+pub same_ends : (nodes : List Node) → Pairs SameEnd nodes nodes
 same_ends [] = tt
 same_ends (n ∷ nodes) = ((refl, refl), same_ends nodes)
 
-ends_on : (xs ys zs : List Node) → Pairs SameEnd xs ys → Pairs SameEnd ys zs → Pairs SameEnd xs zs
+pub ends_on : (xs ys zs : List Node) → Pairs SameEnd xs ys → Pairs SameEnd ys zs → Pairs SameEnd xs zs
 ends_on [] [] [] h k = tt
 ends_on [] [] (z ∷ zs) h k = absurd k
 ends_on [] (y ∷ ys) zs h k = absurd h
@@ -193,14 +193,14 @@ holds_on c memory h x =
     go true = sym (ap (order.byte_from c.image x) (last_end None (filter (operation.stores_to x) c.done) c.b))
     go false = h x ∙ sym (ap (λ ys. order.byte_from c.image x (last_or None ys)) (append-nil (filter (operation.stores_to x) c.done)))
 
-record Placed (model : MemoryModel) (image : ℕ → ℕ) (all : List (List Item)) (done : List Operation) (b : Operation) (rest : List Operation) (s : System) : Type 0 where
-  position : ℕ
-  new : System
-  places : Places b.hart position s new
-  state : State model image all (done ++ b ∷ []) rest new
-  same : Pairs SameEnd s.nodes new.nodes
+pub record Placed (model : MemoryModel) (image : ℕ → ℕ) (all : List (List Item)) (done : List Operation) (b : Operation) (rest : List Operation) (s : System) : Type 0 where
+  pub position : ℕ
+  pub new : System
+  pub places : Places b.hart position s new
+  pub state : State model image all (done ++ b ∷ []) rest new
+  pub same : Pairs SameEnd s.nodes new.nodes
 
-place_one : (model : MemoryModel) (image : ℕ → ℕ) (all : List (List Item)) (whole done : List Operation) (b : Operation) (rest : List Operation) (s : System) → Legal model image all whole → whole ≡ done ++ b ∷ rest → State model image all done (b ∷ rest) s → Placed model image all done b rest s
+pub place_one : (model : MemoryModel) (image : ℕ → ℕ) (all : List (List Item)) (whole done : List Operation) (b : Operation) (rest : List Operation) (s : System) → Legal model image all whole → whole ≡ done ++ b ∷ rest → State model image all done (b ∷ rest) s → Placed model image all done b rest s
 place_one model image all whole done b rest s legal split state = record {
   position = c.k;
   new = t;
@@ -235,14 +235,14 @@ place_one model image all whole done b rest s legal split state = record {
     harts g n (own e f) = subst (λ h. HasHart model all h (done ++ b ∷ []) rest n) (sym e) (subst (HasHart model all b.hart (done ++ b ∷ []) rest) f (record { ops = remove c.ops c.k; kept = placed_kept c }))
     harts g n (others e old f k) = let h = state.harts g old f in subst (HasHart model all g (done ++ b ∷ []) rest) k (record { ops = h.ops; kept = other_kept c g old h.ops (record { kept = h.kept; other = e }) })
 
-record PlacedAll (model : MemoryModel) (initial : Initial) (seen : (ℕ → ℕ) → Bool) (image : ℕ → ℕ) (all : List (List Item)) (whole : List Operation) (s : System) : Type 0 where
-  steps : List Step
-  end : System
-  leads : LeadsSeen model initial seen steps s end
-  state : State model image all whole [] end
-  same : Pairs SameEnd s.nodes end.nodes
+pub record PlacedAll (model : MemoryModel) (initial : Initial) (seen : (ℕ → ℕ) → Bool) (image : ℕ → ℕ) (all : List (List Item)) (whole : List Operation) (s : System) : Type 0 where
+  pub steps : List Step
+  pub end : System
+  pub leads : LeadsSeen model initial seen steps s end
+  pub state : State model image all whole [] end
+  pub same : Pairs SameEnd s.nodes end.nodes
 
-place_all : (model : MemoryModel) (initial : Initial) (seen : (ℕ → ℕ) → Bool) (image : ℕ → ℕ) (all : List (List Item)) (whole done rest : List Operation) (s : System) → Legal model image all whole → whole ≡ done ++ rest → State model image all done rest s → ((d r : List Operation) → whole ≡ d ++ r → seen (order.last_write image d) ≡ true) → PlacedAll model initial seen image all whole s
+pub place_all : (model : MemoryModel) (initial : Initial) (seen : (ℕ → ℕ) → Bool) (image : ℕ → ℕ) (all : List (List Item)) (whole done rest : List Operation) (s : System) → Legal model image all whole → whole ≡ done ++ rest → State model image all done rest s → ((d r : List Operation) → whole ≡ d ++ r → seen (order.last_write image d) ≡ true) → PlacedAll model initial seen image all whole s
 place_all model initial seen image all whole done [] s legal split state saws =
     record { steps = []; end = s; leads = refl; state = subst (λ ds. State model image all ds [] s) (sym (split ∙ append-nil done)) state; same = same_ends s.nodes }
 place_all model initial seen image all whole done (b ∷ rest) s legal split state saws =
@@ -277,20 +277,19 @@ fetch_list model image seen memory front back n (entry ∷ rest) h saw = (
   fetch_list model image seen memory front back (fetched model n entry) rest h.1 saw,
 )
 
-abbrev fetched_from : MemoryModel → Initial → (harts id : ℕ) → List (List Retired) → List Node
+abbrev pub fetched_from : MemoryModel → Initial → (harts id : ℕ) → List (List Retired) → List Node
 fetched_from model image harts id [] = []
 fetched_from model image harts id (entries ∷ rest) = fetched_all model (node_at_reset image harts id) entries ∷ fetched_from model image harts (id + 1) rest
 
-CanFetchLists : MemoryModel → Initial → (harts id : ℕ) → List (List Retired) → Type 0
+abbrev pub CanFetchLists : MemoryModel → Initial → (harts id : ℕ) → List (List Retired) → Type 0
 CanFetchLists model image harts id [] = Unit {0}
 CanFetchLists model image harts id (entries ∷ rest) = CanFetchAll model image (node_at_reset image harts id) entries × CanFetchLists model image harts (id + 1) rest
 
-record FetchedLists (model : MemoryModel) (image : Initial) (seen : (ℕ → ℕ) → Bool) (memory : ℕ → ℕ) (harts id : ℕ) (front : List Node) (lists : List (List Retired)) : Type 0 where
-  steps : List Step
-  leads : LeadsSeen model image seen steps (record { memory = memory; nodes = front ++ map (node_at_reset image harts) (range_with_len id (length lists)) }) (record { memory = memory; nodes = front ++ fetched_from model image harts id lists })
+pub record FetchedLists (model : MemoryModel) (image : Initial) (seen : (ℕ → ℕ) → Bool) (memory : ℕ → ℕ) (harts id : ℕ) (front : List Node) (lists : List (List Retired)) : Type 0 where
+  pub steps : List Step
+  pub leads : LeadsSeen model image seen steps (record { memory = memory; nodes = front ++ map (node_at_reset image harts) (range_with_len id (length lists)) }) (record { memory = memory; nodes = front ++ fetched_from model image harts id lists })
 
-fetch_lists : (model : MemoryModel) (image : Initial) (seen : (ℕ → ℕ) → Bool) (memory : ℕ → ℕ) (harts id : ℕ) (front : List Node) (lists : List (List Retired)) → length front ≡ id → CanFetchLists model image harts id lists → seen memory ≡ true → FetchedLists model image seen memory harts id front lists
-unfolding CanFetchLists
+pub fetch_lists : (model : MemoryModel) (image : Initial) (seen : (ℕ → ℕ) → Bool) (memory : ℕ → ℕ) (harts id : ℕ) (front : List Node) (lists : List (List Retired)) → length front ≡ id → CanFetchLists model image harts id lists → seen memory ≡ true → FetchedLists model image seen memory harts id front lists
 fetch_lists model image seen memory harts id front [] e h saw = record { steps = []; leads = refl }
 fetch_lists model image seen memory harts id front (entries ∷ rest) e h saw =
     let n = node_at_reset image harts id in
@@ -310,8 +309,7 @@ fetch_lists model image seen memory harts id front (entries ∷ rest) e h saw =
 -- ---- a run
 
 -- each hart can fetch its list
-can_fetch_lists : (model : MemoryModel) (image : Initial) (harts id : ℕ) (lists : List (List Retired)) (statuses : List Status) → are_runs_from image harts id lists statuses ≡ true → list_all (are_reserved None) (items_of_harts image harts id lists) ≡ true → CanFetchLists model image harts id lists
-unfolding CanFetchLists
+pub can_fetch_lists : (model : MemoryModel) (image : Initial) (harts id : ℕ) (lists : List (List Retired)) (statuses : List Status) → are_runs_from image harts id lists statuses ≡ true → list_all (are_reserved None) (items_of_harts image harts id lists) ≡ true → CanFetchLists model image harts id lists
 can_fetch_lists model image harts id [] statuses r s = tt
 can_fetch_lists model image harts id (entries ∷ rest) [] r s = absurd (false≢true r)
 can_fetch_lists model image harts id (entries ∷ rest) (status ∷ statuses) r s =
@@ -321,7 +319,7 @@ can_fetch_lists model image harts id (entries ∷ rest) (status ∷ statuses) r 
     (can_fetch_all model image 0 (node_at_reset image harts id) entries run.0 reserved.0, can_fetch_lists model image harts (id + 1) rest statuses runs.1 reserved.1)
 
 -- and what is kept of each behind its list
-fetched_kept_at : (model : MemoryModel) (image : Initial) (harts id : ℕ) (lists : List (List Retired)) → list_all (are_reserved None) (items_of_harts image harts id lists) ≡ true → (g : ℕ) (n : Node) → slice_get (fetched_from model image harts id lists) g ≡ Some n
+pub fetched_kept_at : (model : MemoryModel) (image : Initial) (harts id : ℕ) (lists : List (List Retired)) → list_all (are_reserved None) (items_of_harts image harts id lists) ≡ true → (g : ℕ) (n : Node) → slice_get (fetched_from model image harts id lists) g ≡ Some n
     → (p : ℕ) × Kept model (slice_index_or (items_of_harts image harts id lists) g []) (id + g) p n (operations_of (slice_index_or (items_of_harts image harts id lists) g []))
 fetched_kept_at model image harts id [] s g n e = absurd (none-some n e)
 fetched_kept_at model image harts id (entries ∷ rest) s zero n e =
@@ -337,12 +335,12 @@ fetched_kept_at model image harts id (entries ∷ rest) s (suc g) n e =
     (h.0, subst (λ k. Kept model items k h.0 n (operations_of items)) same h.1)
 
 -- where nothing is left to be placed, nothing waits
-nothing_waits : (model : MemoryModel) (items : List Item) (all : List Operation) (window : List Waiting) (ops : List Operation) → Pairs (Stands model items all) window ops → ((k : ℕ) (a : Operation) → slice_get ops k ≡ Some a → ⊥) → window ≡ []
+pub nothing_waits : (model : MemoryModel) (items : List Item) (all : List Operation) (window : List Waiting) (ops : List Operation) → Pairs (Stands model items all) window ops → ((k : ℕ) (a : Operation) → slice_get ops k ≡ Some a → ⊥) → window ≡ []
 nothing_waits model items all [] ops h f = refl
 nothing_waits model items all (w ∷ ws) [] h f = absurd h
 nothing_waits model items all (w ∷ ws) (a ∷ ops) h f = absurd (f 0 a refl)
 
-have_ended : (model : MemoryModel) (image : Initial) (harts id : ℕ) (lists : List (List Retired)) (statuses : List Status) (nodes : List Node)
+pub have_ended : (model : MemoryModel) (image : Initial) (harts id : ℕ) (lists : List (List Retired)) (statuses : List Status) (nodes : List Node)
     → Pairs SameEnd (fetched_from model image harts id lists) nodes
     → ((k : ℕ) (n : Node) → slice_get nodes k ≡ Some n → n.window ≡ [])
     → are_runs_from image harts id lists statuses ≡ true → list_all has_ended statuses ≡ true
@@ -366,13 +364,13 @@ have_ended model image harts id (entries ∷ rest) (status ∷ statuses) (n ∷ 
     )
 
 -- each operation's hart is there
-harts_present : (model : MemoryModel) (image : Initial) (harts id : ℕ) (lists : List (List Retired)) (h k : ℕ) (m : Item) → slice_get (slice_index_or (items_of_harts image harts id lists) h []) k ≡ Some m → (n : Node) × (slice_get (fetched_from model image harts id lists) h ≡ Some n)
+pub harts_present : (model : MemoryModel) (image : Initial) (harts id : ℕ) (lists : List (List Retired)) (h k : ℕ) (m : Item) → slice_get (slice_index_or (items_of_harts image harts id lists) h []) k ≡ Some m → (n : Node) × (slice_get (fetched_from model image harts id lists) h ≡ Some n)
 harts_present model image harts id [] h k m e = absurd (none-some m e)
 harts_present model image harts id (entries ∷ rest) zero k m e = (fetched_all model (node_at_reset image harts id) entries, refl)
 harts_present model image harts id (entries ∷ rest) (suc h) k m e = harts_present model image harts (id + 1) rest h k m e
 
 -- a beginning of what some elements give is what a beginning of them gives
-prefix : {X Y : Type 0} (f : X → Option Y) (xs : List X) (done rest : List Y) → filter_map f xs ≡ done ++ rest → (k : ℕ) × (filter_map f (take k xs) ≡ done)
+pub prefix : {X Y : Type 0} (f : X → Option Y) (xs : List X) (done rest : List Y) → filter_map f xs ≡ done ++ rest → (k : ℕ) × (filter_map f (take k xs) ≡ done)
 prefix f [] [] rest e = (0, refl)
 prefix f [] (d ∷ done) rest e = absurd (none-some d (ap (λ ys. slice_get ys 0) e))
 prefix {X = X} {Y = Y} f (x ∷ xs) done rest e = go (f x) refl done e (λ d h. prefix f xs d rest h)
