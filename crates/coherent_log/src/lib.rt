@@ -1,5 +1,5 @@
 //! Whether a log of messages is one of coherent caches: whether each message fits the permissions that the log
-//! gave and took, and carries the bytes that it brought.
+//! gave and took, and carries the bytes that it brought. Every machine's log is one (`machine_logs`).
 #![tactic(auto)]
 
 mod checking;
