@@ -1,2 +1,15 @@
 pub mod Advancing
+pub mod Beginning
+pub mod Completing
+pub mod Covering
+pub mod Ending
+pub mod Fates
+pub mod Foretelling
+pub mod Instructions
+pub mod Leftover
+pub mod Numbers
+pub mod Refetching
+pub mod RefetchingLists
 pub mod Seeing
+pub mod Steady
+pub mod Trailing
