@@ -7,6 +7,7 @@ pub mod Leaving
 pub mod Lessening
 pub mod Onward
 pub mod Over
+pub mod Plainer
 pub mod Shrinking
 pub mod Simulations
 pub mod Stopping
