@@ -3,6 +3,7 @@
 
 mod chart;
 mod explain;
+mod idle;
 mod replay;
 
 pub use chart::{address_in, chart_files};

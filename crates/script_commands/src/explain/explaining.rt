@@ -7,6 +7,7 @@ ghost use Rattle.script_commands.specs.Explaining.{IsExplainFault, IsExplained, 
 ghost use Rattle.text_fields.specs.Writing.{Writes};
 
 use crate::explain::named::{NamedImage, named_image_in};
+use crate::idle::{IdleNote, remark_idle};
 use coherent_machine::Machine;
 use command_files::{Fault, Files, config_of, remark_refused, script_from};
 use command_settings::Replay;
@@ -27,7 +28,8 @@ fn tell_state<O: Write>(machine: &Machine, with_state: bool, out: &mut O) -> io:
     }
 }
 
-/// The stream, and behind it what the machine holds at its end, where that is to be told.
+/// The stream, and behind it what the machine holds at its end, where that is to be told. Whether most of the events
+/// changed nothing is left behind.
 fn tell<O: Write>(
     alloc: Global,
     named: NamedImage,
@@ -36,12 +38,14 @@ fn tell<O: Write>(
     strictness: Strictness,
     with_state: bool,
     out: &mut O,
+    idle: &mut Option<IdleNote>,
 ) -> Result<(), StreamError>
     ensures whole { OnOk result (IsWholeExplanation named.names strictness with_state named.image config events.now (O.contents out.old) (O.contents out.new)) }
     ensures unfinished { IfErr result (IsPartOfStream named.names strictness with_state named.image config events.now (O.contents out.old) (O.contents out.new)) }
 {
     let NamedImage { image, names } = named;
     let machine = write_stream(alloc, image, config, events, strictness, &names, out)?;
+    *idle = IdleNote::of(alloc, &machine, config, events);
     match tell_state(&machine, with_state, out) {
         Ok(()) => Ok(()),
         Err(fault) => Err(StreamError::Writing(fault)),
@@ -73,12 +77,18 @@ pub fn explain_script<'a, F: Files, O: Write>(
     let named = named_image_in(alloc, files, wanted.raw, wanted.image, script.kib)?;
     let config = config_of(&script, wanted.model);
     let events = script.events.as_slice();
-    let told = tell(alloc, named, config, events, strictness, with_state, out);
+    let mut idle = None;
+    let told = tell(
+        alloc, named, config, events, strictness, with_state, out, &mut idle,
+    );
     if let Err(error) = out.flush() {
         return Err(Fault::writing(error));
     }
     match told {
-        Ok(()) => Ok(()),
+        Ok(()) => {
+            remark_idle(alloc, files, idle);
+            Ok(())
+        }
         Err(error) => {
             let fault = Fault::explaining(wanted.script, error);
             remark_refused(alloc, files, &script, &fault);

@@ -9,15 +9,20 @@ ghost use Rattle.command_files.specs.Faults.{IsImageFault, IsReadFault, IsScript
 ghost use Rattle.command_files.specs.Faults.{IsReplayFault};
 
 use crate::explain::{NamedImage, named_image_in};
+use crate::idle::IdleNote;
 use crate::replay::composing::{CompositionError, replay_and_write};
-use command_files::{Fault, Files, print_ends, remark, remark_refused, script_in};
+use coherent_machine::Machine;
+use command_files::{Fault, Files, config_of, print_ends, remark, remark_refused, script_in};
 use command_settings::Replay;
+use machine_types::MemoryModel;
 use std::alloc::Global;
 use std::io::Write;
 use stop_text::StopNote;
+use trace_text::Script;
 
 /// Reads and judges the script, then the image, replays, and prints the trace on `out` and each hart's
-/// end on `err`; where and why harts stopped is remarked. Where an event is refused nothing is printed.
+/// end on `err`; where and why harts stopped is remarked, and where most events change nothing. Where an event is refused
+/// nothing is printed.
 pub fn replay_files<'a, F: Files, O: Write, E: Write>(
     alloc: Global,
     files: &mut F,
@@ -52,6 +57,7 @@ pub fn replay_files<'a, F: Files, O: Write, E: Write>(
     if let Err(error) = out.flush() {
         return Err(Fault::writing(error));
     }
+    let idle = idle_in(alloc, &machine, &script, wanted.model);
     let (trace, outputs) = machine.into_parts();
     // Standard error has no other place to tell that it takes no more.
     let _ = print_ends(trace.statuses(), outputs.as_slice(), err);
@@ -59,8 +65,29 @@ pub fn replay_files<'a, F: Files, O: Write, E: Write>(
         trace: &trace,
         names: &names,
     };
-    if stops.is_needed() {
-        remark(alloc, files, stops);
-    }
+    remark_ends(alloc, files, stops, idle);
     Ok(())
+}
+
+/// Whether most of a script's events changed nothing of the machine that they led to.
+fn idle_in(
+    alloc: Global,
+    machine: &Machine,
+    script: &Script,
+    model: MemoryModel,
+) -> Option<IdleNote> {
+    let config = config_of(script, model);
+    IdleNote::of(alloc, machine, config, script.events.as_slice())
+}
+
+/// Remarks where and why harts stopped, and that most of the script's events changed nothing.
+fn remark_ends<F: Files>(alloc: Global, files: &mut F, stops: StopNote<'_>, idle: Option<IdleNote>)
+    ensures { F.held files.new ≡ F.held files.old }
+{
+    match idle {
+        Some(idle) if stops.is_needed() => remark(alloc, files, format_args!("{stops}; {idle}")),
+        Some(idle) => remark(alloc, files, idle),
+        None if stops.is_needed() => remark(alloc, files, stops),
+        None => {}
+    }
 }
