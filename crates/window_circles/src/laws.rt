@@ -1,0 +1,13 @@
+//! Laws of circles, each the contract of a function that does nothing.
+ghost use Rattle.window_circles.specs.Laws.{CirclesNeverEnd, CirclesPlaceNothing};
+
+/// A hart that executes one instruction after the other, none of which accesses memory, comes to nothing that it
+/// fetches and places.
+pub fn circles_place_nothing()
+    ensures { CirclesPlaceNothing }
+{}
+
+/// Nor does it ever end.
+pub fn circles_never_end()
+    ensures { CirclesNeverEnd }
+{}
