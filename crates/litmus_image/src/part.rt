@@ -40,7 +40,7 @@ pub enum Cause {
 /// Why there is no program.
 #[derive(Clone, Copy, Debug, PartialEq, Eq)]
 pub enum ImageError {
-    /// At this line of this hart's column, or behind it.
+    /// At this line of this hart's column, or behind it; at line 0 of hart 0 where it is the whole test's.
     Fault {
         hart: usize,
         line: usize,

@@ -1,0 +1,4 @@
+pub mod Propositions
+pub mod Questions
+pub mod Lines
+pub mod Tests
