@@ -4,6 +4,7 @@ pub mod Completing
 pub mod Covering
 pub mod Ending
 pub mod Fates
+pub mod Following
 pub mod Foretelling
 pub mod Instructions
 pub mod Leftover

@@ -6,4 +6,5 @@ mod laws;
 
 pub use laws::{
     closed_sets_are_complete, closed_sets_see, covered_sets_are_complete, covered_sets_see,
+    loads_follow,
 };
