@@ -35,7 +35,7 @@ use Rattle.window_model.specs.Placing.{beside, placed, written_over}
 use Rattle.window_model.specs.Reserving.{are_reserved}
 use Rattle.window_model.specs.Systems.{HaveEndedAs, LeadsSeen, Places, Step, System, opening}
 use Rattle.window_model.specs.Systems.Step.{Fetch, Place}
-use Rattle.window_model.specs.Waiting.{Waiting, stores_to, written_at}
+use Rattle.window_model.specs.Waiting.{Waiting, written_at}
 use Rattle.window_model.proofs.Pairs.{Beside, pairs_right}
 use Rattle.window_model.proofs.following.Admitting.{admits}
 use Rattle.window_model.proofs.following.Ended.{Listed, legal_of, lists_of}
