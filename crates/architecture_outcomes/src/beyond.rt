@@ -15,7 +15,7 @@ use explorer::words_of;
 use machine_types::Config;
 use state_search::Watch;
 use std::alloc::{AllocError, Global};
-use window_search::{Allowed, Reach, search};
+use window_search::{Allowed, Reach, search_growing};
 use witnesses::Witness;
 
 /// What a search under the memory model finds; nothing, where memory ends in it.
@@ -33,7 +33,7 @@ pub(crate) fn search_model<W: Watch>(
     ensures bounded { result.reach ≢ Reach.LimitMet → result.reach ≢ Reach.OutOfMemory → result.states ≤ limit }
 {
     let window = window as usize;
-    match search(alloc, image, config, addresses, window, limit, watch) {
+    match search_growing(alloc, image, config, addresses, window, limit, watch) {
         Ok(allowed) => allowed,
         Err(AllocError) => Allowed {
             witnesses: Vec::new(alloc),
