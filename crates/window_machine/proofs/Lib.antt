@@ -1,1 +1,7 @@
+pub mod Bits
 pub mod Circles
+pub mod Collecting
+pub mod Fences
+pub mod Operations
+pub mod Passing
+pub mod Uses

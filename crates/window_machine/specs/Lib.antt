@@ -1,2 +1,5 @@
 pub mod Circles
+pub mod Nodes
+pub mod Passing
+pub mod Places
 pub mod Windows

@@ -11,6 +11,7 @@ mod notes;
 mod placing;
 mod registers;
 mod rows;
+mod sets;
 mod waiting;
 mod waits;
 

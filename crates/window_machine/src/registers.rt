@@ -1,4 +1,7 @@
 //! Which registers an instruction reads and writes, by number.
+ghost use Rattle.std.specs.Prelude.{◌≡◌, ◌<◌, ◌++◌, [], unwrap_or};
+ghost use Rattle.memory_model.specs.Dependencies.{sources};
+ghost use Rattle.rv32_exec.specs.Uses.{named, uses_of};
 
 use rv32_decode::{Instr, Register};
 use rv32_exec::{address_register, destination, other_registers, stored_register};
@@ -13,7 +16,10 @@ pub(crate) struct Registers {
     pub written: usize,
 }
 
-fn number(register: Option<Register>) -> usize {
+fn number(register: Option<Register>) -> usize
+    ensures value { result ≡ unwrap_or register 0 }
+    ensures below { result < 32 }
+{
     match register {
         Some(register) => usize::from(register.number()),
         None => 0,
@@ -21,7 +27,13 @@ fn number(register: Option<Register>) -> usize {
 }
 
 /// Those that dependencies count: an ECALL has none.
-pub(crate) fn registers_of(instr: &Instr) -> Registers {
+pub(crate) fn registers_of(instr: &Instr) -> Registers
+    ensures sources { named result.first ++ named result.second ≡ sources (uses_of instr.now) }
+    ensures address { (uses_of instr.now).other ≡ [] → named result.first ≡ (uses_of instr.now).address }
+    ensures stored { (uses_of instr.now).other ≡ [] → named result.second ≡ (uses_of instr.now).stored }
+    ensures written { named result.written ≡ (uses_of instr.now).written }
+    ensures below { result.written < 32 }
+{
     let (one, another) = other_registers(instr);
     Registers {
         first: number(address_register(instr).or(one)),
