@@ -1,0 +1,165 @@
+-- What was asked stays so whatever searches are added.
+use Rattle.std.proofs.Common.{ℕ, ◌≡◌, ◌∙◌, ◌==◌, ◌||◌, ◌++◌, ◌∷◌, [], All, Bool, List, None, Option, Some, ap, false, if◌then◌else◌, inl, inr, is_some, Err, Ok, OnOk, Result, option_map, refl, subst, sym, true}
+use Rattle.std.specs.List.{list_any}
+use Rattle.std.proofs.lemmas.List.{append-nil, append_assoc}
+use Rattle.std.proofs.lemmas.List.Elements.{All-head, All-tail, All-weaker}
+use Rattle.std.proofs.lemmas.Bool.{false≢true}
+use Rattle.std.proofs.lemmas.Bool.Decides.{Decides-eqb}
+use Rattle.std.specs.Cmp.Lexicographic.{pointwise}
+use Rattle.elf_loader.specs.Image.{Initial, word_at}
+use Rattle.fence_audit.specs.Auditing.{AreWeighed, AreWeighedBy, HasEnoughBelow, IsEnough, IsLeftOut, IsReduction, IsSame, IsWeighed, is_below}
+use Rattle.std.specs.declared.alloc.AllocError.{AllocError}
+use Rattle.fence_audit.specs.declared.searches.Asking.{Asking}
+use Rattle.fence_audit.specs.Searches.{AreSearched, Grows, IsAsked, answer_in, are_same, is_of, search_in}
+use Rattle.fence_audit.specs.declared.answers.Answer.{Answer}
+use Rattle.fence_audit.specs.declared.answers.Answer.TheVariants.{Same}
+use Rattle.fence_audit.specs.declared.searches.Search.{Search}
+use Rattle.image_orderings.specs.Forms.{weaker_words}
+use Rattle.image_orderings.specs.Programs.{patches_with, patches_without}
+use Rattle.image_orderings.specs.declared.orderings.ImageOrdering.{ImageOrdering}
+use Rattle.image_orderings.specs.declared.orderings.Part.{Part}
+use Rattle.image_orderings.specs.declared.orderings.Part.TheVariants.{Acquire, Fence, Release}
+use Rattle.image_orderings.specs.declared.replacing.Patch.{Patch}
+
+-- ---- more searches
+
+pub none_more : (old : List Search) → Grows old old
+none_more old = ([], sym (append-nil old))
+
+pub grows_on : (old mid new : List Search) → Grows old mid → Grows mid new → Grows old new
+grows_on old mid new (a, e) (b, f) = (a ++ b, f ∙ (ap (λ (xs : List Search). xs ++ b) e ∙ append_assoc old a b))
+
+answer_on : (searches more : List Search) (patches : List Patch) (answer : Answer) → answer_in searches patches ≡ Some answer → answer_in (searches ++ more) patches ≡ Some answer
+answer_on [] more patches answer is =
+    let bad : None ≡ Some answer = is in cc
+answer_on (x ∷ rest) more patches answer is = go (is_of patches x) is (λ later. answer_on rest more patches answer later)
+  where
+    go : (b : Bool) → option_map (λ (s : Search). s.answer) (if b then Some x else search_in rest patches) ≡ Some answer
+        → (answer_in rest patches ≡ Some answer → answer_in (rest ++ more) patches ≡ Some answer)
+        → option_map (λ (s : Search). s.answer) (if b then Some x else search_in (rest ++ more) patches) ≡ Some answer
+    go true is later = is
+    go false is later = later is
+
+asked_on : (searches more : List Search) (patches : List Patch) → IsAsked searches patches → IsAsked (searches ++ more) patches
+asked_on [] more patches is = absurd (false≢true is)
+asked_on (x ∷ rest) more patches is = go (is_of patches x) is (λ later. asked_on rest more patches later)
+  where
+    go : (b : Bool) → is_some (if b then Some x else search_in rest patches) ≡ true → (IsAsked rest patches → IsAsked (rest ++ more) patches)
+        → is_some (if b then Some x else search_in (rest ++ more) patches) ≡ true
+    go true is later = is
+    go false is later = later is
+
+pub answer_stays : (old new : List Search) (patches : List Patch) (answer : Answer) → Grows old new → answer_in old patches ≡ Some answer → answer_in new patches ≡ Some answer
+answer_stays old new patches answer (added, e) is = subst (λ (xs : List Search). answer_in xs patches ≡ Some answer) (sym e) (answer_on old added patches answer is)
+
+pub asked_stays : (old new : List Search) (patches : List Patch) → Grows old new → IsAsked old patches → IsAsked new patches
+asked_stays old new patches (added, e) is = subst (λ (xs : List Search). IsAsked xs patches) (sym e) (asked_on old added patches is)
+
+-- what has an answer was asked
+pub answered : (searches : List Search) (patches : List Patch) (answer : Answer) → answer_in searches patches ≡ Some answer → IsAsked searches patches
+answered searches patches answer is = go (search_in searches patches) is
+  where
+    go : (o : Option Search) → option_map (λ (s : Search). s.answer) o ≡ Some answer → is_some o ≡ true
+    go None is =
+        let bad : None ≡ Some answer = is in cc
+    go (Some s) is = refl
+
+-- ---- one search more
+
+same_number : (n : ℕ) → (n == n) ≡ true
+same_number n = (Decides-eqb n n).1 refl
+
+of_itself : (patches : List Patch) → pointwise are_same patches patches ≡ true
+of_itself [] = refl
+of_itself (p ∷ rest) = rw (same_number p.address, same_number p.word, of_itself rest) refl
+
+pub first_asked : (searches new : List Search) (search : Search) (patches : List Patch) → None ≡ search_in searches patches → search.patches.items ≡ patches → new ≡ searches ++ search ∷ []
+    → answer_in new patches ≡ Some search.answer
+first_asked searches new search patches none own e =
+    subst (λ (xs : List Search). answer_in xs patches ≡ Some search.answer) (sym e)
+    (go searches (sym none))
+  where
+    is : is_of patches search ≡ true
+    is = subst (λ (xs : List Patch). pointwise are_same xs patches ≡ true) (sym own) (of_itself patches)
+
+    at : (b : Bool) → b ≡ true → option_map (λ (s : Search). s.answer) (if b then Some search else None) ≡ Some search.answer
+    at true is = refl
+    at false is = absurd (false≢true is)
+
+    go : (xs : List Search) → search_in xs patches ≡ None → answer_in (xs ++ search ∷ []) patches ≡ Some search.answer
+    go [] none = at (is_of patches search) is
+    go (x ∷ rest) none = pass (is_of patches x) none (λ later. go rest later)
+      where
+        pass : (b : Bool) → (if b then Some x else search_in rest patches) ≡ None → (search_in rest patches ≡ None → answer_in (rest ++ search ∷ []) patches ≡ Some search.answer)
+            → option_map (λ (s : Search). s.answer) (if b then Some x else search_in (rest ++ search ∷ []) patches) ≡ Some search.answer
+        pass true none later =
+            let bad : Some x ≡ None = none in cc
+        pass false none later = later none
+
+-- ---- what is said of searches stays so
+
+pub each_asked_stays : (old new : List Search) (patches : List Patch) (orderings : List ImageOrdering) → Grows old new → All (IsLeftOut old patches) orderings → All (IsLeftOut new patches) orderings
+each_asked_stays old new patches orderings grown all =
+    All-weaker (IsLeftOut old patches) (IsLeftOut new patches) (λ o is. asked_stays old new (patches_without o patches) grown is) orderings all
+
+pub weighed_stays : (old new : List Search) (patches : List Patch) (address word : ℕ) → Grows old new → IsWeighed old patches address word → IsWeighed new patches address word
+weighed_stays old new patches address word grown (inl is) = inl (asked_stays old new (patches_with address word patches) grown is)
+weighed_stays old new patches address word grown (inr (v, below, is)) = inr (v, below, answer_stays old new (patches_with address v patches) Same grown is)
+
+pub each_weighed_stays : (old new : List Search) (patches : List Patch) (address : ℕ) (words : List ℕ) → Grows old new → All (IsWeighed old patches address) words → All (IsWeighed new patches address) words
+each_weighed_stays old new patches address words grown all = All-weaker (IsWeighed old patches address) (IsWeighed new patches address) (λ w is. weighed_stays old new patches address w grown is) words all
+
+are_weighed_by_stay : (p : Part) (old new : List Search) (patches : List Patch) (address word : ℕ) → Grows old new → AreWeighedBy p old patches address word → AreWeighedBy p new patches address word
+are_weighed_by_stay Fence old new patches address word grown all = each_weighed_stays old new patches address (weaker_words word) grown all
+are_weighed_by_stay Acquire old new patches address word grown all = tt
+are_weighed_by_stay Release old new patches address word grown all = tt
+
+are_weighed_stay : (image : Initial) (old new : List Search) (patches : List Patch) (o : ImageOrdering) → Grows old new → AreWeighed image old patches o → AreWeighed image new patches o
+are_weighed_stay image old new patches o grown (inl is) = inl (answer_stays old new (patches_without o patches) Same grown is)
+are_weighed_stay image old new patches o grown (inr all) = inr (are_weighed_by_stay o.part old new patches o.address (word_at image o.address) grown all)
+
+pub each_are_weighed_stay : (image : Initial) (old new : List Search) (patches : List Patch) (orderings : List ImageOrdering) → Grows old new → All (AreWeighed image old patches) orderings → All (AreWeighed image new patches) orderings
+each_are_weighed_stay image old new patches orderings grown all =
+    All-weaker (AreWeighed image old patches) (AreWeighed image new patches) (λ o is. are_weighed_stay image old new patches o grown is) orderings all
+
+pub enough_stays : (own : List Patch) (old new : List Search) (patches : List Patch) → Grows old new → IsEnough own old patches → IsEnough own new patches
+enough_stays own old new patches grown (inl is) = inl is
+enough_stays own old new patches grown (inr is) = inr (answer_stays old new patches Same grown is)
+
+pub each_same_stays : (old new : List Search) (patches : List Patch) (address : ℕ) (words : List ℕ) → Grows old new → All (IsSame old patches address) words → All (IsSame new patches address) words
+each_same_stays old new patches address words grown all = All-weaker (IsSame old patches address) (IsSame new patches address) (λ w is. answer_stays old new (patches_with address w patches) Same grown is) words all
+
+-- one of the words that are enough is weaker
+pub below_enough : (searches : List Search) (patches : List Patch) (address word : ℕ) (words : List ℕ) → All (IsSame searches patches address) words → list_any (is_below word) words ≡ true
+    → HasEnoughBelow searches patches address word
+below_enough searches patches address word [] all some = absurd (false≢true some)
+below_enough searches patches address word (v ∷ rest) all some =
+    go (is_below word v) refl some (λ later. below_enough searches patches address word rest (All-tail (IsSame searches patches address) v rest all) later)
+  where
+    go : (b : Bool) → is_below word v ≡ b → (b || list_any (is_below word) rest) ≡ true → (list_any (is_below word) rest ≡ true → HasEnoughBelow searches patches address word)
+        → HasEnoughBelow searches patches address word
+    go true is some later = (v, is, All-head (IsSame searches patches address) v rest all)
+    go false is some later = later some
+
+-- a FENCE that is needed, beside weaker ones
+pub fence_weighed : (image : Initial) (searches : List Search) (own : List Patch) (o : ImageOrdering) (word : ℕ) → o.part ≡ Fence → word ≡ word_at image o.address
+    → All (IsWeighed searches own o.address) (weaker_words word) → AreWeighed image searches own o
+fence_weighed image searches own o word is at all =
+    inr (subst (λ (p : Part). AreWeighedBy p searches own o.address (word_at image o.address)) (sym is) (subst (λ w. All (IsWeighed searches own o.address) (weaker_words w)) at all))
+
+-- what a call's success says
+pub ok_more : {T : Type 0} (P Q : Type 0) (r : Result T AllocError) → (P → Q) → OnOk r P → OnOk r Q
+ok_more P Q (Ok done) f so = f so
+ok_more P Q (Err error) f so = tt
+
+-- the searches of an audit, one after another
+pub reduction : (asking : Asking) (orderings : List ImageOrdering) (own last last' : List Patch) (first second third all : List Search)
+    → All (IsLeftOut first own) orderings → Grows first second → All (AreWeighed asking.question.image.now second own) orderings → Grows second third → IsEnough own third last
+    → Grows third all → last' ≡ last → All (IsLeftOut all last') orderings → AreSearched asking all → IsReduction asking orderings own all last
+reduction asking orderings own last last' first second third all alone one weighed two enough three is each searched = record {
+  searched = searched;
+  alone = each_asked_stays first all own orderings (grows_on first second all one (grows_on second third all two three)) alone;
+  weighed = each_are_weighed_stay asking.question.image.now second all own orderings (grows_on second third all two three) weighed;
+  enough = enough_stays own third all last three enough;
+  each = subst (λ (patches : List Patch). All (IsLeftOut all patches) orderings) is each;
+}

@@ -1,0 +1,16 @@
+use Rattle.fence_audit.proofs.Found.{searched, shows_same}
+use Rattle.image_orderings.specs.Replaced.{patched}
+use Rattle.fence_audit.proofs.searches.explore.Goals as goal
+
+pub explore_architecture-requires : goal.explore_architecture-requires
+explore_architecture-requires g c = record {
+  room = c.requires.ready.room;
+  words = shows_same c.args.question.image.now c.in_ok-image.image c.args.question.addresses.now c.in_ok-image.ensures.size c.requires.ready.words;
+}
+
+pub returns : goal.returns
+returns g c =
+    let question = c.args.question in
+    let is = c.explore_architecture.ensures in
+    searched (patched question.image.now c.args.patches.now) c.in_ok-image.image c.in_ok-image.ensures.made question.config question.addresses.now question.window question.limit
+    c.explore_architecture.result is.shown is.machine is.alone is.bounded is.order is.model is.window

@@ -1,0 +1,59 @@
+-- What a search of a changed program told, beside what one of the program as it is told.
+use Rattle.std.specs.Prelude.{◌≡◌, ◌≢◌, ◌≤◌, ℕ, All, Bool, List, None, Option, Some, false, min, not, position, true}
+use Rattle.std.specs.List.{list_any}
+use Rattle.std.specs.List.Sorted.{IsStrictlySortedBy}
+use Rattle.std.specs.Ordering.{on}
+use Rattle.architecture_outcomes.specs.Outcomes.{IsDecided, IsWitnessed, TellsEachEnd, end_of, tells}
+use Rattle.architecture_outcomes.specs.declared.architecture.Architecture.{Architecture}
+use Rattle.architecture_outcomes.specs.declared.outcome.Outcome.{Outcome}
+use Rattle.elf_loader.specs.Image.{Initial}
+use Rattle.explorer.specs.WordOrders.{ending_cmp}
+use Rattle.fence_audit.specs.declared.answers.Answer.{Answer}
+use Rattle.fence_audit.specs.declared.answers.Answer.TheVariants.{Bounded, Fewer, Other, Same}
+use Rattle.machine_types.specs.declared.config.Config.{Config}
+use Rattle.state_search.specs.declared.findings.Extent.{Extent}
+use Rattle.state_search.specs.declared.findings.Extent.TheVariants.{Complete}
+use Rattle.window_search.specs.declared.left_out.Reach.{Reach}
+use Rattle.window_search.specs.declared.left_out.Reach.TheVariants.{LimitMet, OutOfMemory, Whole}
+
+-- ---- a search
+
+-- what is said to show an outcome does; where the machine's own search is complete, each of its outcomes is told as one of the machine, and each other as the model's alone;
+-- the search under the model finds no more states than the limit, unless it says that it met one or that memory ended; the outcomes stand in their order, each once
+pub record IsSearchOf (image : Initial) (config : Config) (addresses : List ℕ) (window limit : ℕ) (found : Architecture) : Type 0 where
+  pub shown : All (IsWitnessed image config addresses) found.outcomes.items
+  pub machine : found.machine ≡ Complete → TellsEachEnd image config addresses found.outcomes.items
+  pub alone : found.machine ≡ Complete → All (λ o. IsDecided o.way) found.outcomes.items
+  pub bounded : found.reach ≢ LimitMet → found.reach ≢ OutOfMemory → found.states ≤ limit
+  pub order : IsStrictlySortedBy (on end_of ending_cmp) found.outcomes.items
+  pub model : found.model ≡ config.model
+  pub window_is : found.window ≡ min window 64
+
+abbrev pub whole_by : Reach → Extent → Bool
+whole_by Whole Complete = true
+whole_by _ _ = false
+
+-- neither the search under the model nor the machine's own met a bound
+abbrev pub is_whole : Architecture → Bool
+is_whole found = whole_by found.reach found.machine
+
+-- ---- beside another
+
+-- it is one of these
+abbrev pub has_end : List Outcome → Outcome → Bool
+has_end outcomes o = list_any (tells (end_of o)) outcomes
+
+-- the place of the first that isn't one of the others
+abbrev pub first_beyond : (others outcomes : List Outcome) → Option ℕ
+first_beyond others = position (λ o. not (has_end others o))
+
+-- another outcome counts whatever was left out, and that there is none, or one less, only where nothing was
+abbrev pub answer_by : (other missing : Option ℕ) → (whole : Bool) → Answer
+answer_by (Some place) missing whole = Other place
+answer_by None missing false = Bounded
+answer_by None (Some place) true = Fewer place
+answer_by None None true = Same
+
+-- what was found beside what was known, where the search that knew it was whole
+abbrev pub answer_of : (known : List Outcome) → Architecture → Answer
+answer_of known found = answer_by (first_beyond known found.outcomes.items) (first_beyond found.outcomes.items known) (is_whole found)

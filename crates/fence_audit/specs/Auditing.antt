@@ -1,0 +1,77 @@
+-- What an audit of a program's orderings has searched, and what it leaves.
+use Rattle.std.specs.Prelude.{◌≡◌, ◌⊎◌, ℕ, All, Bool, List, Some, true}
+use Rattle.elf_loader.specs.Image.{Initial, word_at}
+use Rattle.fence_audit.specs.Answers.{IsSearchOf, is_whole}
+use Rattle.fence_audit.specs.Searches.{AreSearched, IsAsked, IsSearched, answer_in}
+use Rattle.fence_audit.specs.declared.answers.Answer.TheVariants.{Same}
+use Rattle.fence_audit.specs.declared.auditing.Audit.{Audit}
+use Rattle.fence_audit.specs.declared.searches.Asking.{Asking}
+use Rattle.fence_audit.specs.declared.searches.Search.{Search}
+use Rattle.image_orderings.specs.Forms.{is_weaker, weaker_words}
+use Rattle.image_orderings.specs.Orderings.{orderings_of}
+use Rattle.image_orderings.specs.Programs.{own_patches, patches_with, patches_without}
+use Rattle.image_orderings.specs.declared.orderings.ImageOrdering.{ImageOrdering}
+use Rattle.image_orderings.specs.declared.orderings.Part.{Part}
+use Rattle.image_orderings.specs.declared.orderings.Part.TheVariants.{Acquire, Fence, Release}
+use Rattle.image_orderings.specs.declared.replacing.Patch.{Patch}
+use Rattle.machine_types.specs.declared.config.Config.{Config}
+use Rattle.rv32_decode.specs.Rows.{decoded}
+
+-- ---- each ordering by itself
+
+-- the program without it was searched
+abbrev pub IsLeftOut : List Search → List Patch → ImageOrdering → Type 0
+IsLeftOut searches patches o = IsAsked searches (patches_without o patches)
+
+-- it orders less than the word
+abbrev pub is_below : (word weaker : ℕ) → Bool
+is_below word weaker = is_weaker (decoded weaker) (decoded word)
+
+-- the program with this word there has the same outcomes
+abbrev pub IsSame : List Search → List Patch → (address word : ℕ) → Type 0
+IsSame searches patches address word = answer_in searches (patches_with address word patches) ≡ Some Same
+
+-- some word there that orders less than this one is enough
+abbrev pub HasEnoughBelow : List Search → List Patch → (address word : ℕ) → Type 0
+HasEnoughBelow searches patches address word =
+    (weaker : ℕ) × (is_below word weaker ≡ true) × IsSame searches patches address weaker
+
+-- the program with this word there was searched, or a weaker one is enough
+abbrev pub IsWeighed : List Search → List Patch → (address word : ℕ) → Type 0
+IsWeighed searches patches address word = IsAsked searches (patches_with address word patches) ⊎ HasEnoughBelow searches patches address word
+
+-- where it is a FENCE without which there is another outcome, so is each weaker one
+abbrev pub AreWeighedBy : Part → List Search → List Patch → (address word : ℕ) → Type 0
+AreWeighedBy Fence searches patches address word = All (IsWeighed searches patches address) (weaker_words word)
+AreWeighedBy Acquire searches patches address word = Unit {0}
+AreWeighedBy Release searches patches address word = Unit {0}
+
+abbrev pub AreWeighed : Initial → List Search → List Patch → ImageOrdering → Type 0
+AreWeighed image searches patches o = (answer_in searches (patches_without o patches) ≡ Some Same) ⊎ AreWeighedBy o.part searches patches o.address (word_at image o.address)
+
+-- ---- all together
+
+-- it is the program as it is, or one of the same outcomes
+abbrev pub IsEnough : (own : List Patch) → List Search → List Patch → Type 0
+IsEnough own searches patches = (patches ≡ own) ⊎ (answer_in searches patches ≡ Some Same)
+
+-- each search is what it says; the program without each ordering was searched, of each FENCE that is needed with each weaker one, and the last program, without each of its orderings
+pub record IsReduction (asking : Asking) (orderings : List ImageOrdering) (own : List Patch) (searches : List Search) (last : List Patch) : Type 0 where
+  pub searched : AreSearched asking searches
+  pub alone : All (IsLeftOut searches own) orderings
+  pub weighed : All (AreWeighed asking.question.image.now searches own) orderings
+  pub enough : IsEnough own searches last
+  pub each : All (IsLeftOut searches last) orderings
+
+-- ---- an audit
+
+-- the program as it is was searched; where that search was whole, so was it without each ordering, of each FENCE that is needed with each weaker one, and the last program, without each of its orderings; each search is what it says
+pub record IsAudit (image : Initial) (config : Config) (addresses : List ℕ) (window limit : ℕ) (audit : Audit) : Type 0 where
+  pub known : IsSearchOf image config addresses window limit audit.known
+  pub orderings : audit.orderings.items ≡ orderings_of image
+  pub own : audit.own.items ≡ own_patches image audit.orderings.items
+  pub searched : All (IsSearched image config addresses window limit audit.known.outcomes.items) audit.searches.items
+  pub alone : is_whole audit.known ≡ true → All (IsLeftOut audit.searches.items audit.own.items) audit.orderings.items
+  pub weighed : is_whole audit.known ≡ true → All (AreWeighed image audit.searches.items audit.own.items) audit.orderings.items
+  pub enough : is_whole audit.known ≡ true → IsEnough audit.own.items audit.searches.items audit.last.items
+  pub each : is_whole audit.known ≡ true → All (IsLeftOut audit.searches.items audit.last.items) audit.orderings.items

@@ -1,0 +1,3 @@
+pub mod Answers
+pub mod Auditing
+pub mod Searches

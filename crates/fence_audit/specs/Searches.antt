@@ -1,0 +1,60 @@
+-- The searches of an audit, each of an image with words replaced.
+use Rattle.std.specs.Prelude.{All, ◌<◌, ◌≡◌, ◌&&◌, ◌==◌, ◌++◌, ℕ, [], ◌∷◌, Bool, List, None, Option, Some, if◌then◌else◌, is_some, option_map, true}
+use Rattle.std.specs.Cmp.Lexicographic.{pointwise}
+use Rattle.architecture_outcomes.specs.declared.outcome.Outcome.{Outcome}
+use Rattle.elf_loader.specs.Image.{HasWord, Initial}
+use Rattle.fence_audit.specs.Answers.{IsSearchOf, answer_of}
+use Rattle.fence_audit.specs.declared.answers.Answer.{Answer}
+use Rattle.explorer.specs.Words.{CanShowEach}
+use Rattle.fence_audit.specs.declared.searches.Asking.{Asking}
+use Rattle.fence_audit.specs.declared.searches.Question.{Question}
+use Rattle.fence_audit.specs.declared.searches.Search.{Search}
+use Rattle.image_orderings.specs.Replaced.{patched}
+use Rattle.image_orderings.specs.declared.replacing.Patch.{Patch}
+use Rattle.machine_types.specs.declared.config.Config.{Config}
+
+-- it is of the image with these words replaced, and answers by what it found
+pub record IsSearched (image : Initial) (config : Config) (addresses : List ℕ) (window limit : ℕ) (known : List Outcome) (search : Search) : Type 0 where
+  pub found : IsSearchOf (patched image search.patches.items) config addresses window limit search.found
+  pub answer : search.answer ≡ answer_of known search.found
+
+abbrev pub are_same : Patch → Patch → Bool
+are_same a b = a.address == b.address && a.word == b.word
+
+-- it is of the image with these words replaced
+abbrev pub is_of : List Patch → Search → Bool
+is_of patches search = pointwise are_same search.patches.items patches
+
+-- the first search of the image with these words replaced, if there is one
+abbrev pub search_in : List Search → List Patch → Option Search
+search_in [] patches = None
+search_in (search ∷ rest) patches = if is_of patches search then Some search else search_in rest patches
+
+abbrev pub answer_in : List Search → List Patch → Option Answer
+answer_in searches patches = option_map (λ (s : Search). s.answer) (search_in searches patches)
+
+-- there is one
+abbrev pub IsAsked : List Search → List Patch → Type 0
+IsAsked searches patches = is_some (search_in searches patches) ≡ true
+
+-- some searches were added
+abbrev pub Grows : (old new : List Search) → Type 0
+Grows old new = (added : List Search) × (new ≡ old ++ added)
+
+-- ---- what an audit's searches have in common
+
+-- a state may be found, and words lie where they are to be shown
+pub record IsReady (question : Question) : Type 0 where
+  pub room : 0 < question.limit
+  pub words : CanShowEach question.image.now question.addresses.now
+
+-- words lie where they are replaced
+abbrev pub AreInside : Question → List Patch → Type 0
+AreInside question patches = All (λ (p : Patch). HasWord question.image.now p.address) patches
+
+abbrev pub IsSearchedBy : Asking → Search → Type 0
+IsSearchedBy asking search =
+    IsSearched asking.question.image.now asking.question.config asking.question.addresses.now asking.question.window asking.question.limit asking.known.now search
+
+abbrev pub AreSearched : Asking → List Search → Type 0
+AreSearched asking searches = All (IsSearchedBy asking) searches

@@ -1,0 +1,137 @@
+//! Which of a program's orderings it needs.
+ghost use Rattle.std.specs.Prelude.{All, IfOk, OnOk};
+ghost use Rattle.elf_loader.specs.Image.{HasWord};
+ghost use Rattle.fence_audit.specs.Auditing.{IsAudit, IsLeftOut, IsReduction};
+ghost use Rattle.fence_audit.specs.Searches.{AreInside, AreSearched, Grows, IsReady};
+
+use crate::answers::is_whole;
+use crate::searches::{Asking, Question, Search, explore};
+use architecture_outcomes::Architecture;
+use image_orderings::{ImageOrdering, Patch, orderings_of, own_patches, patches_without};
+use state_search::Watch;
+use std::alloc::{AllocError, Global};
+
+/// Which of a program's orderings it needs. What is known of it stands at `audit_program`.
+#[derive(Drop)]
+pub struct Audit {
+    /// What was found of the program as it is.
+    pub known: Architecture,
+    /// By addresses, and at one aq before rl.
+    pub orderings: Vec<ImageOrdering>,
+    /// The words where they stand.
+    pub own: Vec<Patch>,
+    /// In the order in which they were made, none of them twice.
+    pub searches: Vec<Search>,
+    /// The words there of a program with fewer orderings.
+    pub last: Vec<Patch>,
+}
+
+/// Searches the program as it is, and where that search is whole without each of its orderings, with weaker FENCEs in
+/// place of those that are needed, and with ever fewer orderings: each is left out in turn, by addresses, and then each
+/// FENCE made weaker, where the outcomes stay the same. Meanwhile `watch` is told how far each search is. The error is
+/// that there was no memory.
+pub fn audit_program<W: Watch>(
+    alloc: Global,
+    question: Question<'_>,
+    watch: &W,
+) -> Result<Audit, AllocError>
+    requires { IsReady question }
+    ensures { IfOk result (IsAudit question.entry.image.now question.entry.config question.entry.addresses.now question.entry.window question.entry.limit) }
+{
+    let orderings = orderings_of(alloc, question.image)?;
+    let own = own_patches(alloc, question.image, &orderings)?;
+    let known = explore(alloc, question, &[], watch)?;
+    if !is_whole(&known) {
+        let searches = Vec::new(alloc);
+        let last = own.as_slice().to_vec(alloc)?;
+        return Ok(Audit {
+            known,
+            orderings,
+            own,
+            searches,
+            last,
+        });
+    }
+    let asking = Asking {
+        alloc,
+        question,
+        known: &known.outcomes,
+    };
+    let Reduced { searches, last } = asking.reduction(&orderings, &own, watch)?;
+    Ok(Audit {
+        known,
+        orderings,
+        own,
+        searches,
+        last,
+    })
+}
+
+/// The searches of an audit, and the program with fewer orderings that they lead to.
+#[derive(Drop)]
+struct Reduced {
+    searches: Vec<Search>,
+    last: Vec<Patch>,
+}
+
+impl Asking<'_> {
+    /// Searches without each of the orderings, with weaker FENCEs in place of those that are needed, and with ever fewer
+    /// orderings.
+    fn reduction<W: Watch>(
+        &self,
+        orderings: &[ImageOrdering],
+        own: &[Patch],
+        watch: &W,
+    ) -> Result<Reduced, AllocError>
+        requires ready { IsReady self.now.question }
+        requires inside { AreInside self.now.question own.now }
+        requires places { All (λ o. HasWord self.now.question.image.now o.address) orderings.now }
+        ensures { IfOk result (λ r. IsReduction self.now orderings.now own.now r.searches.items r.last.items) }
+    {
+        let mut searches = Vec::new(self.alloc);
+        self.ask_each(&mut searches, orderings, own, watch)?;
+        self.weigh_each(&mut searches, orderings, own, watch)?;
+        let last = self.reduced(&mut searches, orderings, own, watch)?;
+        self.ask_each(&mut searches, orderings, &last, watch)?;
+        Ok(Reduced { searches, last })
+    }
+
+    /// Asks for the program without each of the orderings in turn.
+    fn ask_each<W: Watch>(
+        &self,
+        searches: &mut Vec<Search>,
+        orderings: &[ImageOrdering],
+        patches: &[Patch],
+        watch: &W,
+    ) -> Result<(), AllocError>
+        requires ready { IsReady self.now.question }
+        requires inside { AreInside self.now.question patches.now }
+        ensures asked { OnOk result (All (IsLeftOut searches.new.items patches.now) orderings.now) }
+        ensures grown { OnOk result (Grows searches.old.items searches.new.items) }
+        ensures searched { OnOk result (AreSearched self.now searches.old.items → AreSearched self.now searches.new.items) }
+    {
+        for ordering in orderings {
+            self.ask_without(searches, *ordering, patches, watch)?;
+        }
+        Ok(())
+    }
+
+    /// Asks for the program without one of its orderings.
+    fn ask_without<W: Watch>(
+        &self,
+        searches: &mut Vec<Search>,
+        ordering: ImageOrdering,
+        patches: &[Patch],
+        watch: &W,
+    ) -> Result<(), AllocError>
+        requires ready { IsReady self.now.question }
+        requires inside { AreInside self.now.question patches.now }
+        ensures asked { OnOk result (IsLeftOut searches.new.items patches.now ordering) }
+        ensures grown { OnOk result (Grows searches.old.items searches.new.items) }
+        ensures searched { OnOk result (AreSearched self.now searches.old.items → AreSearched self.now searches.new.items) }
+    {
+        let tried = patches_without(self.alloc, patches, ordering)?;
+        let _answer = self.ask(searches, &tried, watch)?;
+        Ok(())
+    }
+}

@@ -1,0 +1,136 @@
+//! The searches of an audit, none of which is made twice.
+ghost use Rattle.std.specs.Prelude.{◌≡◌, IfOk, OnOk, Some, option_map};
+ghost use Rattle.fence_audit.specs.Answers.{IsSearchOf};
+ghost use Rattle.fence_audit.specs.Searches.{AreInside, AreSearched, Grows, IsReady, IsSearchedBy, answer_in, is_of, search_in};
+ghost use Rattle.image_orderings.specs.Replaced.{patched};
+
+use crate::answers::{Answer, answer_of};
+use architecture_outcomes::{Architecture, Outcome, explore_architecture};
+use elf_loader::Image;
+use explorer::Exploring;
+use image_orderings::{Patch, patched};
+use machine_types::Config;
+use state_search::Watch;
+use std::alloc::{AllocError, Global};
+
+/// A search of an image with words replaced.
+#[derive(Drop)]
+pub struct Search {
+    /// The words that stand in it.
+    pub patches: Vec<Patch>,
+    pub found: Architecture,
+    /// Beside what is known of the program as it is.
+    pub answer: Answer,
+}
+
+/// What all searches of an audit have in common.
+#[derive(Clone, Copy)]
+pub struct Question<'a> {
+    /// The program as it is.
+    pub image: &'a Image,
+    pub config: Config,
+    /// Of the words of memory that outcomes show.
+    pub addresses: &'a [u32],
+    /// How many operations of a hart may wait at a time.
+    pub window: u32,
+    /// How many states each search may find.
+    pub limit: u32,
+}
+
+/// The search of the image with these words replaced, if it was made.
+pub fn search_in<'s>(searches: &'s [Search], patches: &[Patch]) -> Option<&'s Search>
+    ensures { option_map (λ s. s.now) result ≡ search_in searches.now patches.now }
+{
+    let mut rest = searches;
+    while let [first, tail @ ..] = rest {
+        if is_of(first, patches) {
+            return Some(first);
+        }
+        rest = tail;
+    }
+    None
+}
+
+/// Whether it is of the image with these words replaced.
+fn is_of(search: &Search, patches: &[Patch]) -> bool
+    ensures { result ≡ is_of patches.now search.now }
+{
+    search.patches.as_slice() == patches
+}
+
+/// Searches of a program with words replaced, beside what is known of it as it is.
+#[derive(Clone, Copy)]
+pub(crate) struct Asking<'a> {
+    pub alloc: Global,
+    pub question: Question<'a>,
+    /// The outcomes of the program as it is.
+    pub known: &'a [Outcome],
+}
+
+/// What is found of the image with these words replaced.
+pub(crate) fn explore<W: Watch>(
+    alloc: Global,
+    question: Question<'_>,
+    patches: &[Patch],
+    watch: &W,
+) -> Result<Architecture, AllocError>
+    requires ready { IsReady question }
+    requires inside { AreInside question patches.now }
+    ensures { IfOk result (IsSearchOf (patched question.entry.image.now patches.now) question.entry.config question.entry.addresses.now question.entry.window question.entry.limit) }
+{
+    let image = patched(alloc, question.image, patches)?;
+    let exploring = Exploring {
+        limit: question.limit,
+        shortened: false,
+    };
+    explore_architecture(
+        alloc,
+        &image,
+        question.config,
+        question.addresses,
+        question.window,
+        exploring,
+        watch,
+    )
+}
+
+impl Asking<'_> {
+    /// What a search of the program with these words replaced answers. It is made unless it was already.
+    pub(crate) fn ask<W: Watch>(
+        &self,
+        searches: &mut Vec<Search>,
+        patches: &[Patch],
+        watch: &W,
+    ) -> Result<Answer, AllocError>
+        requires ready { IsReady self.now.question }
+        requires inside { AreInside self.now.question patches.now }
+        ensures asked { IfOk result (λ answer. answer_in searches.new.items patches.now ≡ Some answer) }
+        ensures grown { OnOk result (Grows searches.old.items searches.new.items) }
+        ensures searched { OnOk result (AreSearched self.now searches.old.items → AreSearched self.now searches.new.items) }
+    {
+        if let Some(search) = search_in(searches.as_slice(), patches) {
+            return Ok(search.answer);
+        }
+        let search = self.search(patches, watch)?;
+        let answer = search.answer;
+        searches.push(search)?;
+        Ok(answer)
+    }
+
+    /// A search of the program with these words replaced.
+    fn search<W: Watch>(&self, patches: &[Patch], watch: &W) -> Result<Search, AllocError>
+        requires ready { IsReady self.now.question }
+        requires inside { AreInside self.now.question patches.now }
+        ensures patches { IfOk result (λ search. search.patches.items ≡ patches.now) }
+        ensures searched { IfOk result (IsSearchedBy self.now) }
+    {
+        let found = explore(self.alloc, self.question, patches, watch)?;
+        let answer = answer_of(self.known, &found);
+        let patches = patches.to_vec(self.alloc)?;
+        Ok(Search {
+            patches,
+            found,
+            answer,
+        })
+    }
+}
