@@ -21,4 +21,4 @@ pub use rows::{Item, is_end};
 pub use scanning::{expect, is_same, keyword_at};
 pub use step::{Relation, Step};
 pub use stop::{Cause, Fault, Section, Stop, line_of};
-pub use told::{Source, Told};
+pub use told::Told;

@@ -1,21 +1,21 @@
 //! The places that a final state tells, and where their values come from.
 
-use crate::initial::Width;
-use crate::places::Place;
-
-/// Where a value comes from.
-#[derive(Clone, Copy)]
-pub enum Source {
-    /// What a hart put out at this place of its output.
-    Output { hart: usize, index: usize },
-    /// The word of this number of those that are shown.
-    Word(usize),
-}
+use rv32_decode::Register;
+use text_words::Name;
 
 /// A place whose value a state tells.
 #[derive(Clone, Copy)]
-pub struct Told {
-    pub place: Place,
-    pub width: Width,
-    pub source: Source,
+pub enum Told {
+    /// A hart's register, put out at this place of the hart's output.
+    Register {
+        hart: u8,
+        register: Register,
+        index: usize,
+    },
+    /// A location, whose word is of this number among those that are shown; `mask` has the bits that count.
+    Location {
+        name: Name,
+        mask: u32,
+        number: usize,
+    },
 }

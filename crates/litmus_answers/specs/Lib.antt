@@ -1,0 +1,6 @@
+pub mod Locations
+pub mod Parts
+pub mod Holding
+pub mod Answers
+pub mod States
+pub mod Blocks
