@@ -1,9 +1,12 @@
 -- The bare window machine: harts with windows over one memory, whose small steps build the global memory order from left to right. It has no bound, guesses any value, and leaves nothing out.
-use Rattle.std.specs.Prelude.{ℕ, ◌≡◌, Bool, true, List, [], ◌∷◌, Some, map, slice_get, slice_set}
+use Rattle.std.specs.Prelude.{ℕ, ◌≡◌, Bool, true, false, ◌||◌, ◌==◌, List, [], ◌∷◌, Some, map, slice_get, slice_set}
 use Rattle.std.specs.List.{range_with_len}
 use Rattle.elf_loader.specs.Image.{Initial, byte_at}
 use Rattle.flat_model.specs.Shown.{HartEnd}
 use Rattle.hart.specs.declared.retired.Retired.{Retired}
+use Rattle.hart.specs.declared.state.Hart.{Hart}
+use Rattle.hart.specs.declared.status.Status.{Status}
+use Rattle.hart.specs.declared.status.Status.TheVariants.{Stopped}
 use Rattle.hart.specs.Run.{status_fits}
 use Rattle.machine_types.specs.declared.model.MemoryModel.{MemoryModel}
 use Rattle.witnesses.specs.Witnesses.{has_ended}
@@ -57,11 +60,19 @@ LeadsSeen model image seen (step ∷ rest) s u = (t : System) × Takes model ima
 
 -- ---- ends
 
+-- the hart was stopped so. Here no hart is: it runs, and would stop
+abbrev pub is_stopped_as : Status → Status → Bool
+is_stopped_as (Stopped code) (Stopped other) = code == other
+is_stopped_as _ _ = false
+
+abbrev pub ends_as : Initial → Hart → Status → Bool
+ends_as image hart status = status_fits image hart status || is_stopped_as hart.status status
+
 -- the hart has ended so, and nothing waits
 pub record HasEndedAs (image : Initial) (n : Node) (result : HartEnd) : Type 0 where
   pub placed : n.window ≡ []
   pub ended : has_ended result.status ≡ true
-  pub status : status_fits image n.hart result.status ≡ true
+  pub status : ends_as image n.hart result.status ≡ true
   pub output : n.output ≡ result.output
 
 -- all harts have, by hart

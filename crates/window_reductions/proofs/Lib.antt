@@ -3,6 +3,7 @@ pub mod Covering
 pub mod Ending
 pub mod Forgetting
 pub mod Guessing
+pub mod Halting
 pub mod Leaving
 pub mod Lessening
 pub mod Onward

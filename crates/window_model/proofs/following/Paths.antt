@@ -4,7 +4,7 @@ use Rattle.std.specs.Prelude.{filter, map, slice_get, slice_index_or, slice_set}
 use Rattle.std.specs.List.{cons_option, filter_map, last_or, list_all, range_with_len, remove}
 use Rattle.std.specs.Option.{option_map}
 use Rattle.std.proofs.Math.Path.{fun_ext}
-use Rattle.std.proofs.lemmas.Bool.{false≢true, and_parts}
+use Rattle.std.proofs.lemmas.Bool.{false≢true, and_parts, or_left}
 use Rattle.std.proofs.lemmas.List.{append-nil, append_assoc, length-append}
 use Rattle.std.proofs.lemmas.List.Elements.{filter-append}
 use Rattle.std.proofs.lemmas.Option.{none-some, same_Some, slice_get-map}
@@ -33,7 +33,7 @@ use Rattle.window_model.specs.Nodes.{Node, node_at_reset}
 use Rattle.window_model.specs.Pairs.{Pairs}
 use Rattle.window_model.specs.Placing.{beside, placed, written_over}
 use Rattle.window_model.specs.Reserving.{are_reserved}
-use Rattle.window_model.specs.Systems.{HaveEndedAs, LeadsSeen, Places, Step, System, opening}
+use Rattle.window_model.specs.Systems.{HaveEndedAs, LeadsSeen, Places, Step, System, is_stopped_as, opening}
 use Rattle.window_model.specs.Systems.Step.{Fetch, Place}
 use Rattle.window_model.specs.Waiting.{Waiting, written_at}
 use Rattle.window_model.proofs.Pairs.{Beside, pairs_right}
@@ -357,7 +357,7 @@ have_ended model image harts id (entries ∷ rest) (status ∷ statuses) (n ∷ 
       record {
         placed = w 0 n refl;
         ended = ended.0;
-        status = ap (λ (q : Hart). status_fits image q status) (sym h.0.0 ∙ hart_fetched model m entries) ∙ run.1;
+        status = or_left (status_fits image n.hart status) (is_stopped_as n.hart.status status) (ap (λ (q : Hart). status_fits image q status) (sym h.0.0 ∙ hart_fetched model m entries) ∙ run.1);
         output = sym h.0.1 ∙ output_fetched model m entries;
       },
       have_ended model image harts (id + 1) rest statuses nodes h.1 (λ k o e. w (suc k) o e) runs.1 ended.1,
