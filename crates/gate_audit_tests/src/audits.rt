@@ -1,0 +1,182 @@
+//! Small programs, of which was worked out by hand how many are searched and which words are left in the end.
+ghost use Rattle.std.specs.Prelude.{◌<◌};
+
+use elf_loader::{Image, raw, size_of_kib};
+use fence_audit::{Audit, Question, audit_program, is_whole};
+use machine_types::{Config, MemoryModel};
+use state_search::Unwatched;
+use std::alloc::{AllocError, Global};
+use std::process::Abort;
+use std::test::Fail;
+use tl_types::LineSize;
+
+fn image_of(alloc: Global, words: &[u32]) -> Result<Image, Fail> {
+    let size = size_of_kib(4).ok_or("a size")?;
+    let mut bytes = Vec::new(alloc);
+    for word in words {
+        bytes.extend_from_slice(&word.to_le_bytes())?;
+    }
+    Ok(raw(alloc, &bytes, size)?)
+}
+
+fn audit_in(alloc: Global, image: &Image, config: Config, limit: u32) -> Result<Audit, AllocError>
+    requires { 0 < limit }
+{
+    let question = Question {
+        image,
+        config,
+        addresses: &[],
+        window: 16,
+        limit,
+    };
+    audit_program(alloc, question, &Unwatched)
+}
+
+fn audit_of(
+    alloc: Global,
+    words: &[u32],
+    harts: u32,
+    model: MemoryModel,
+    limit: u32,
+) -> Result<Audit, Fail>
+    requires { 0 < limit }
+{
+    let image = image_of(alloc, words)?;
+    let config = Config::new(harts, 1, 2, LineSize::Bytes16, model).ok_or("limits")?;
+    Ok(audit_in(alloc, &image, config, limit)?)
+}
+
+/// Whether these are the words of the last program, in their order.
+fn leaves(audit: &Audit, words: &[u32]) -> bool {
+    audit.last.len() == words.len()
+        && audit
+            .last
+            .iter()
+            .zip(words)
+            .all(|(patch, word)| patch.word == *word)
+}
+
+/// Ends the test unless so many programs are searched behind the first, and these words are left.
+fn ends_with(
+    rt: &(impl Abort + AllocGlobal),
+    words: &[u32],
+    harts: u32,
+    model: MemoryModel,
+    searches: usize,
+    last: &[u32],
+) -> Result<(), Fail> {
+    let audit = audit_of(rt.alloc(), words, harts, model, 100_000)?;
+    assert!(rt; is_whole(&audit.known));
+    assert_eq!(rt; audit.searches.len(), searches);
+    assert!(rt; leaves(&audit, last));
+    Ok(())
+}
+
+const NOP: u32 = 0x0000_0013;
+
+// Nothing needs the fence before an exit.
+static EXIT: [u32; 3] = [0x0330_000f, 0x0050_0513, 0x0000_0073];
+
+#[test]
+fn a_fence_before_an_exit(rt: HostRuntime) -> Result<(), Fail> {
+    ends_with(&rt, &EXIT, 1, MemoryModel::Rvwmo, 1, &[NOP])
+}
+
+// `examples/message_passing_fenced.elf`: hart 1 puts out 42, and without either fence it may put out 0.
+static MESSAGE: [u32; 20] = [
+    0x8000_02b7,
+    0x1002_8293,
+    0x8000_0337,
+    0x1403_0313,
+    0x0005_1e63,
+    0x02a0_0393,
+    0x0072_a023,
+    0x0110_000f,
+    0x0010_0e13,
+    0x01c3_2023,
+    0x01c0_006f,
+    0x0003_2e03,
+    0xfe0e_0ee3,
+    0x0220_000f,
+    0x0002_a503,
+    0x0010_0893,
+    0x0000_0073,
+    0x0000_0513,
+    0x0000_0893,
+    0x0000_0073,
+];
+
+#[test]
+fn a_message_between_two_fences(rt: HostRuntime) -> Result<(), Fail> {
+    let kept = [0x0110_000f, 0x0220_000f];
+    ends_with(&rt, &MESSAGE, 2, MemoryModel::Rvwmo, 2, &kept)
+}
+
+// Ztso orders loads before loads, and stores before stores: without the first fence, without the second, without both.
+#[test]
+fn a_message_under_ztso(rt: HostRuntime) -> Result<(), Fail> {
+    ends_with(&rt, &MESSAGE, 2, MemoryModel::Ztso, 3, &[NOP, NOP])
+}
+
+// `examples/store_buffering_fenced.elf`: stores have to come before loads. Searched are that without its FENCE, and the
+// FENCEs r, r; r, w; w, r, which is enough; w, w; r, rw; rw, w and TSO. The others order stores before loads too.
+static BUFFERING: [u32; 17] = [
+    0x8000_02b7,
+    0x1002_8293,
+    0x8000_0337,
+    0x1403_0313,
+    0x0005_0863,
+    0x0002_8393,
+    0x0003_0293,
+    0x0003_8313,
+    0x0010_0e13,
+    0x01c2_a023,
+    0x0330_000f,
+    0x0003_2503,
+    0x0010_0893,
+    0x0000_0073,
+    0x0000_0513,
+    0x0000_0893,
+    0x0000_0073,
+];
+
+#[test]
+fn stores_before_loads(rt: HostRuntime) -> Result<(), Fail> {
+    ends_with(&rt, &BUFFERING, 2, MemoryModel::Rvwmo, 8, &[0x0120_000f])
+}
+
+// `examples/spin_lock.elf`: without aq the counter may be read before the lock is taken, without rl written behind its
+// release, and both harts put out 1.
+static LOCK: [u32; 16] = [
+    0x8000_02b7,
+    0x1002_8293,
+    0x8000_0337,
+    0x1403_0313,
+    0x0010_0393,
+    0x0c72_ae2f,
+    0xfe0e_1ee3,
+    0x0003_2503,
+    0x0015_0513,
+    0x00a3_2023,
+    0x0a02_a02f,
+    0x0010_0893,
+    0x0000_0073,
+    0x0000_0513,
+    0x0000_0893,
+    0x0000_0073,
+];
+
+#[test]
+fn a_lock_by_amoswap(rt: HostRuntime) -> Result<(), Fail> {
+    let kept = [0x0c72_ae2f, 0x0a02_a02f];
+    ends_with(&rt, &LOCK, 2, MemoryModel::Rvwmo, 2, &kept)
+}
+
+// A search of one state decides nothing.
+#[test]
+fn a_bound_of_the_first_search(rt: HostRuntime) -> Result<(), Fail> {
+    let audit = audit_of(rt.alloc(), &MESSAGE, 2, MemoryModel::Rvwmo, 1)?;
+    assert!(&rt; !is_whole(&audit.known));
+    assert_eq!(&rt; audit.searches.len(), 0);
+    Ok(())
+}
