@@ -11,16 +11,17 @@ ghost use Rattle.command_files.specs.Faults.{LeavesAtFault};
 use crate::reading::whole_trace;
 use command_files::{Escaped, Fault, Files, remark, text_in};
 use elf_loader::Image;
-use log_text::{Contradiction, Objection, end_text, line_of_message, put_verdict};
+use log_text::{Contradiction, Objection, Unanswered, end_text, line_of_message, put_verdict};
 use message_judge::{MessageBreach, MessageVerdict, judge_messages};
+use open_questions::left_open;
 use std::alloc::Global;
 use std::io::{self, Write};
-use trace_recorder::Trace;
+use trace_recorder::{Logged, Trace};
 
 /// Reads a trace, or one that ends behind its messages, judges its log by the rules of the lawful log and of the
 /// coherent log, and prints the verdict on `out`. Memory begins as the trace's I lines say; where there is none with
-/// bytes that aren't known. Where the log isn't lawful, the line of the message that breaks a rule, and what stood
-/// against it, go to `err`.
+/// bytes that aren't known. Where a question of a lawful log has no answer, a remark tells. Where the log isn't lawful,
+/// the line of the message that breaks a rule, and what stood against it, go to `err`.
 pub fn check_messages<'a, F: Files, O: Write, E: Write>(
     alloc: Global,
     files: &mut F,
@@ -43,19 +44,61 @@ pub fn check_messages<'a, F: Files, O: Write, E: Write>(
     let Ok(verdict) = judge_messages(alloc, memory_at_start(&trace), trace.log()) else {
         return Err(Fault::OutOfMemory);
     };
-    if trace.log().is_empty() {
-        remark(
-            alloc,
-            files,
-            "no M line stands in it, so nothing was judged",
-        );
-    }
+    remark_judged(alloc, files, bytes.as_slice(), trace.log(), verdict);
     if let Err(error) = print(verdict, out) {
         return Err(Fault::writing(error));
     }
     // Standard error has no other place to tell that it takes no more.
     let _ = object(file, bytes.as_slice(), &trace, verdict, err);
     Ok(verdict)
+}
+
+/// Remarks that there was nothing to judge, or which questions of a lawful log have no answer.
+fn remark_judged<F: Files>(
+    alloc: Global,
+    files: &mut F,
+    bytes: &[u8],
+    log: &[Logged],
+    verdict: MessageVerdict,
+)
+    ensures { F.held files.new ≡ F.held files.old }
+{
+    if log.is_empty() {
+        remark(
+            alloc,
+            files,
+            "no M line stands in it, so nothing was judged",
+        );
+    }
+    if verdict == MessageVerdict::Lawful {
+        remark_open(alloc, files, bytes, log);
+    }
+}
+
+/// Remarks the first question that no answer follows, and how many there are. Where memory is wanting, or there is
+/// none, nothing is told.
+fn remark_open<F: Files>(alloc: Global, files: &mut F, bytes: &[u8], log: &[Logged])
+    ensures { F.held files.new ≡ F.held files.old }
+{
+    let Ok(Some(open)) = left_open(alloc, log) else {
+        return;
+    };
+    let Some(question) = Unanswered::of(log, open.first) else {
+        return;
+    };
+    let line = line_of_message(bytes, open.first).unwrap_or(0);
+    if open.count == 1 {
+        remark(alloc, files, format_args!("line {line}: {question}"));
+    } else {
+        let count = open.count;
+        remark(
+            alloc,
+            files,
+            format_args!(
+                "line {line}: {question}, the first of {count} questions without an answer"
+            ),
+        );
+    }
 }
 
 /// The image, if an I line tells of it.
@@ -115,5 +158,9 @@ fn object<E: Write>(
                 None => Ok(()),
             }
         }
+        MessageBreach::Unanswered => match Unanswered::of(trace.log(), index) {
+            Some(question) => writeln!(err, "rvtl: {name}: line {line}: {question}"),
+            None => Ok(()),
+        },
     }
 }

@@ -7,6 +7,7 @@ mod ending;
 mod objection;
 mod place;
 mod spelling;
+mod unanswered;
 mod verdict;
 mod waiting;
 
@@ -14,4 +15,5 @@ pub use contradiction::Contradiction;
 pub use ending::end_text;
 pub use objection::Objection;
 pub use place::line_of_message;
+pub use unanswered::Unanswered;
 pub use verdict::put_verdict;

@@ -1,5 +1,5 @@
 -- Lawful messages, and the first message of another log that breaks a rule.
-use Rattle.std.specs.Prelude.{ℕ, ◌≡◌, ◌+◌, ◌↔◌, List, Option, take}
+use Rattle.std.specs.Prelude.{ℕ, ◌≡◌, ◌+◌, ◌↔◌, List, [], ◌∷◌, Option, take}
 use Rattle.coherent_log.specs.Laws as coherence
 use Rattle.coherent_log.specs.Laws.{IsCoherentLog}
 use Rattle.coherent_log.specs.declared.verdict.CoherenceVerdict.{CoherenceVerdict}
@@ -10,9 +10,10 @@ use Rattle.lawful_log.specs.declared.rule.LogVerdict.{LogVerdict}
 use Rattle.lawful_log.specs.declared.rule.LogVerdict.TheVariants.{Lawful}
 use Rattle.machine_model.specs.LawfulLog.{IsLawfulLog}
 use Rattle.message_judge.specs.declared.verdict.MessageBreach.{MessageBreach}
-use Rattle.message_judge.specs.declared.verdict.MessageBreach.TheVariants.{Incoherent, Unlawful}
+use Rattle.message_judge.specs.declared.verdict.MessageBreach.TheVariants.{Incoherent, Unanswered, Unlawful}
 use Rattle.message_judge.specs.declared.verdict.MessageVerdict.{MessageVerdict}
 use Rattle.message_judge.specs.declared.verdict.MessageVerdict.TheVariants as message
+use Rattle.open_questions.specs.Open.{open_from}
 use Rattle.trace_recorder.specs.declared.logged.Logged.{Logged}
 
 -- each message keeps each rule of both kinds, where memory begins as the image says, if it is known
@@ -23,6 +24,7 @@ AreLawfulMessages image log = IsLawfulLog log × IsCoherentLog image log
 abbrev pub IsFirstFault : Option Initial → List Logged → MessageBreach → ℕ → Type 0
 IsFirstFault image log (Unlawful rule) index = order.IsFirstBreach log rule index × IsCoherentLog image (take index log)
 IsFirstFault image log (Incoherent breach) index = coherence.IsFirstBreach image log breach index × IsLawfulLog (take (index + 1) log)
+IsFirstFault image log Unanswered index = ⊥
 
 abbrev pub IfUnlawful : MessageVerdict → (MessageBreach → ℕ → Type 0) → Type 0
 IfUnlawful message.Lawful P = Unit {0}
@@ -32,6 +34,21 @@ IfUnlawful (message.Unlawful breach index) P = P breach index
 pub record IsMessageVerdict (image : Option Initial) (log : List Logged) (v : MessageVerdict) : Type 0 where
   pub lawful : (v ≡ message.Lawful) ↔ AreLawfulMessages image log
   pub unlawful : IfUnlawful v (λ breach index. IsFirstFault image log breach index)
+
+-- each question has its answer too
+abbrev pub AreEndedMessages : Option Initial → List Logged → Type 0
+AreEndedMessages image log = AreLawfulMessages image log × (open_from 0 log ≡ [])
+
+-- a rule is broken, or else this is the first question that no answer follows
+abbrev pub IsFirstFaultAtEnd : Option Initial → List Logged → MessageBreach → ℕ → Type 0
+IsFirstFaultAtEnd image log Unanswered index = AreLawfulMessages image log × (rest : List ℕ) × (open_from 0 log ≡ index ∷ rest)
+IsFirstFaultAtEnd image log (Unlawful rule) index = IsFirstFault image log (Unlawful rule) index
+IsFirstFaultAtEnd image log (Incoherent breach) index = IsFirstFault image log (Incoherent breach) index
+
+-- the verdict on a log that has ended
+pub record IsEndedVerdict (image : Option Initial) (log : List Logged) (v : MessageVerdict) : Type 0 where
+  pub lawful : (v ≡ message.Lawful) ↔ AreEndedMessages image log
+  pub unlawful : IfUnlawful v (λ breach index. IsFirstFaultAtEnd image log breach index)
 
 -- those of the two judges
 pub record IsLogVerdict (log : List Logged) (v : LogVerdict) : Type 0 where

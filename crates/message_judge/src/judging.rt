@@ -2,13 +2,15 @@
 ghost use Rattle.std.specs.Prelude.{IfOk, List, Option};
 ghost use Rattle.std.specs.Option.{option_copied};
 ghost use Rattle.elf_loader.specs.Image.{Initial};
-ghost use Rattle.message_judge.specs.Laws.{IsCoherenceVerdict, IsLogVerdict, IsMessageVerdict};
+ghost use Rattle.message_judge.specs.Laws.{AreLawfulMessages, IsCoherenceVerdict, IsEndedVerdict, IsLogVerdict, IsMessageVerdict};
+ghost use Rattle.open_questions.specs.Open.{LeavesOpen, open_from};
 ghost use Rattle.trace_recorder.specs.declared.logged.Logged.{Logged as LoggedValue};
 
 use crate::verdict::{MessageBreach, MessageVerdict};
 use coherent_log::{Breach, CoherenceVerdict, check_coherence};
 use elf_loader::Image;
 use lawful_log::{LogRule, LogVerdict, check_log};
+use open_questions::{Open, left_open};
 use std::alloc::{AllocError, Global};
 use trace_recorder::Logged;
 
@@ -26,6 +28,36 @@ pub fn judge_messages(
     let lawful = check_log(alloc, log)?;
     let coherent = check_coherence(alloc, image, log)?;
     Ok(earlier(lawful, coherent))
+}
+
+/// The same of a log that has ended: where each message is lawful, the answer that each question asks for was taken,
+/// and else the first whose answer wasn't is unlawful. The only error is want of memory.
+pub fn judge_ended(
+    alloc: Global,
+    image: Option<&Image>,
+    log: &[Logged],
+) -> Result<MessageVerdict, AllocError>
+    ensures { IfOk result (IsEndedVerdict (option_copied image.entry) log.now) }
+{
+    match judge_messages(alloc, image, log)? {
+        MessageVerdict::Lawful => Ok(at_end(left_open(alloc, log)?)),
+        MessageVerdict::Unlawful { breach, index } => {
+            Ok(MessageVerdict::Unlawful { breach, index })
+        }
+    }
+}
+
+/// The verdict on a log whose messages are lawful, and which leaves this open.
+fn at_end(found: Option<Open>) -> MessageVerdict
+    ensures { (image : Option Initial) (log : List LoggedValue) → AreLawfulMessages image log → LeavesOpen (open_from 0 log) found → IsEndedVerdict image log result }
+{
+    match found {
+        None => MessageVerdict::Lawful,
+        Some(questions) => MessageVerdict::Unlawful {
+            breach: MessageBreach::Unanswered,
+            index: questions.first,
+        },
+    }
 }
 
 /// The verdict of both: of two breaches the earlier, of one message's that of the lawful log.

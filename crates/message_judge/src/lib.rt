@@ -5,5 +5,5 @@
 mod judging;
 mod verdict;
 
-pub use judging::judge_messages;
+pub use judging::{judge_ended, judge_messages};
 pub use verdict::{MessageBreach, MessageVerdict};

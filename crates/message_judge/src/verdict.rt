@@ -12,6 +12,8 @@ pub enum MessageBreach {
     Unlawful(LogRule),
     /// A rule of the coherent log, and none of the lawful log: what the log said before doesn't fit.
     Incoherent(Breach),
+    /// No other rule is broken, the log has ended, and the answer that the message asks for wasn't taken.
+    Unanswered,
 }
 
 impl MessageBreach {
@@ -22,6 +24,7 @@ impl MessageBreach {
         match self {
             MessageBreach::Unlawful(rule) => rule.name(),
             MessageBreach::Incoherent(breach) => breach.rule().name(),
+            MessageBreach::Unanswered => "ended",
         }
     }
 }
