@@ -7,6 +7,7 @@ RVTL is the built program. A line tells of each case whether it ended as it shou
 import os
 import pty
 import resource
+import shutil
 import signal
 import subprocess
 import sys
@@ -66,6 +67,30 @@ def over_the_program(rvtl, folder):
                  [f"rvtl: {program}: cannot write", "note: this is the program: name another file for --journal"], stdin=file)
     with open(program, "rb") as file:
         tell("the program stays", file.read() == words, program)
+
+
+def ends_over_the_program(rvtl, folder):
+    """Scripts aren't written over the program, nor over what is allowed, also by a link."""
+    ends_folder = os.path.join(folder, "ends")
+    os.mkdir(ends_folder)
+    program = os.path.join(folder, "explored.bin")
+    shutil.copy(IMAGE, program)
+    allowed = os.path.join(folder, "allowed")
+    with open(allowed, "w") as file:
+        file.write("hart 0: exit 5\n")
+    explore = [rvtl, "explore", "--raw", "--scripts", ends_folder]
+    script = os.path.join(ends_folder, "outcome-1.script")
+    for name, make in [("a link", os.symlink), ("a hard link", os.link)]:
+        for what, read in [("the program", program), ("the file of --allow", allowed)]:
+            make(read, script)
+            with open(read, "rb") as file:
+                before = file.read()
+            ends(f"scripts over {what} by {name}", [*explore, "--allow", allowed, program], 1,
+                 [f"rvtl: {ends_folder}: cannot write",
+                  f"note: {script}: this is {what}: name another folder for --scripts"])
+            with open(read, "rb") as file:
+                tell(f"{what} stays", file.read() == before, read)
+            os.unlink(script)
 
 
 def over_standard_output(rvtl, folder):
@@ -165,6 +190,7 @@ def main():
         ends("scripts for no folder", [rvtl, "explore", "--raw", "--scripts", f"{folder}/no", IMAGE], 1,
              [f"rvtl: {folder}/no: cannot write", f"note: {folder}/no/outcome-1.script: there is no such file or folder"])
         over_the_program(rvtl, folder)
+        ends_over_the_program(rvtl, folder)
         over_standard_output(rvtl, folder)
         scripts = f"{folder}/scripts"
         os.makedirs(f"{scripts}/outcome-1.script")

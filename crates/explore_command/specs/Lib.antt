@@ -11,3 +11,4 @@ pub mod ModelKeeping
 pub mod Searching
 pub mod Telling
 pub mod Passing
+pub mod Sparing

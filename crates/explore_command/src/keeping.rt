@@ -11,6 +11,7 @@ ghost use Rattle.explore_command.specs.Keeping.{AreKept, AreKeptFrom, FileName, 
 ghost use Rattle.machine_types.specs.declared.config.Config.{Config};
 ghost use Rattle.trace_text.specs.Scripts.{text};
 
+use crate::sparing::spare_what_is_read;
 use command_files::{Escaped, Fault, Files, remark, script_of};
 use command_settings::Explore;
 use explorer::{Exploration, Found, Realisation};
@@ -98,8 +99,8 @@ pub(crate) fn keep<'a, T: Keepable, F: Files>(
     found.keep_in(folder, files)
 }
 
-/// Refuses the folder that was named, if one was, where no script could be written into it, as far as that shows
-/// before a search, which may be long.
+/// Refuses the folder that was named, if one was, where no script could be written into it, or one over what the search
+/// reads, as far as that shows before a search, which may be long.
 pub(crate) fn check_folder<'a, F: Files>(
     alloc: Global,
     files: &mut F,
@@ -119,7 +120,8 @@ pub(crate) fn check_folder<'a, F: Files>(
         config,
         kib: wanted.machine.memory,
     };
-    folder.check(files)
+    folder.check(files)?;
+    spare_what_is_read(folder, files, wanted)
 }
 
 impl<'a> Folder<'a> {
@@ -182,14 +184,14 @@ impl<'a> Folder<'a> {
         Ok(())
     }
 
-    fn outcome_path(&self, number: usize) -> Result<String, AllocError>
+    pub fn outcome_path(&self, number: usize) -> Result<String, AllocError>
         ensures { IfOk result (λ path. string_bytes path ≡ outcome_path self.now.name.now number) }
     {
         let name = self.name;
         format!(in self.alloc; "{name}/outcome-{number}.script")
     }
 
-    fn stuck_path(&self) -> Result<String, AllocError>
+    pub fn stuck_path(&self) -> Result<String, AllocError>
         ensures { IfOk result (λ path. string_bytes path ≡ stuck_path self.now.name.now) }
     {
         let name = self.name;

@@ -13,6 +13,7 @@ mod keeping;
 mod laws;
 mod sample;
 mod show;
+mod sparing;
 
 pub use architecture::architecture_files;
 pub use exploring::explore_files;

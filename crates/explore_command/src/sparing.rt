@@ -1,0 +1,129 @@
+//! What a search reads, and doesn't write over.
+
+ghost use Rattle.std.specs.Prelude.{◌≡◌, ◌≢◌, IfErr, IsNone, OnOk, false};
+ghost use Rattle.explore_command.specs.Exploring.{IsFolderFault};
+ghost use Rattle.explore_command.specs.Keeping.{outcome_path};
+ghost use Rattle.explore_command.specs.Sparing.{AreOthers, IsOther};
+
+use crate::keeping::Folder;
+use command_files::{Escaped, Fault, Files, remark};
+use command_settings::Explore;
+
+/// Before which outcome's number a folder is looked at.
+const NUMBERS: usize = 1_001;
+
+/// Refuses a folder where a script or a trace would be written over the program, or over the file of what is allowed,
+/// also by a link: as far as the first 1,000 outcomes and what gets stuck go.
+pub(crate) fn spare_what_is_read<'a, F: Files>(
+    folder: Folder<'a>,
+    files: &mut F,
+    wanted: Explore<'_>,
+) -> Result<(), Fault<'a>>
+    ensures apart { OnOk result (AreOthers wanted.entry folder.entry.name.now) }
+    ensures told { IfErr result (IsFolderFault folder.entry.name) }
+    ensures stays { F.held files.new ≡ F.held files.old }
+{
+    let Ok(stuck) = folder.stuck_path() else {
+        return Err(Fault::OutOfMemory);
+    };
+    spare_path(folder, files, &stuck, wanted)?;
+    for number in 1..NUMBERS {
+        spare_outcome(folder, files, number, wanted)?;
+    }
+    Ok(())
+}
+
+/// Refuses the folder where the script or the trace of this outcome would be written over what is read.
+fn spare_outcome<'a, F: Files>(
+    folder: Folder<'a>,
+    files: &mut F,
+    number: usize,
+    wanted: Explore<'_>,
+) -> Result<(), Fault<'a>>
+    ensures apart { OnOk result (IsOther wanted.entry (outcome_path folder.entry.name.now number)) }
+    ensures told { IfErr result (IsFolderFault folder.entry.name) }
+    ensures stays { F.held files.new ≡ F.held files.old }
+{
+    let Ok(script) = folder.outcome_path(number) else {
+        return Err(Fault::OutOfMemory);
+    };
+    spare_path(folder, files, &script, wanted)?;
+    spare_trace(folder, files, number, wanted)
+}
+
+/// Refuses the folder where the trace of this outcome would be written over what is read: without `--architecture` there
+/// are none.
+fn spare_trace<'a, F: Files>(
+    folder: Folder<'a>,
+    files: &mut F,
+    number: usize,
+    wanted: Explore<'_>,
+) -> Result<(), Fault<'a>>
+    ensures told { IfErr result (IsFolderFault folder.entry.name) }
+    ensures stays { F.held files.new ≡ F.held files.old }
+{
+    if !wanted.architecture {
+        return Ok(());
+    }
+    let name = folder.name;
+    let Ok(trace) = format!(in folder.alloc; "{name}/outcome-{number}.trace") else {
+        return Err(Fault::OutOfMemory);
+    };
+    spare_path(folder, files, &trace, wanted)
+}
+
+/// Refuses the folder where its file of this path is one that is read.
+fn spare_path<'a, F: Files>(
+    folder: Folder<'a>,
+    files: &mut F,
+    path: &str,
+    wanted: Explore<'_>,
+) -> Result<(), Fault<'a>>
+    ensures apart { OnOk result (IsOther wanted.entry path.now) }
+    ensures told { IfErr result (λ fault. fault ≡ Fault.CannotMake folder.entry.name) }
+    ensures stays { F.held files.new ≡ F.held files.old }
+{
+    let Some(what) = read_at(files, path, wanted) else {
+        return Ok(());
+    };
+    let path = Escaped(path);
+    remark(
+        folder.alloc,
+        files,
+        format_args!("{path}: this is {what}: name another folder for --scripts"),
+    );
+    Err(Fault::CannotMake { file: folder.name })
+}
+
+/// What is read from the file of this path, if anything is.
+fn read_at<F: Files>(files: &mut F, path: &str, wanted: Explore<'_>) -> Option<&'static str>
+    ensures apart { IsNone result → IsOther wanted.entry path.now }
+    ensures stays { F.held files.new ≡ F.held files.old }
+{
+    if is_of(files, path, wanted.image) {
+        return Some("the program");
+    }
+    match wanted.allow {
+        Some(allow) => allowed_at(files, path, allow),
+        None => None,
+    }
+}
+
+fn allowed_at<F: Files>(files: &mut F, path: &str, allow: &str) -> Option<&'static str>
+    ensures apart { IsNone result → path.now ≢ allow.now }
+    ensures stays { F.held files.new ≡ F.held files.old }
+{
+    if is_of(files, path, allow) {
+        Some("the file of --allow")
+    } else {
+        None
+    }
+}
+
+/// Whether the path is of the file of this name.
+fn is_of<F: Files>(files: &mut F, path: &str, name: &str) -> bool
+    ensures apart { result ≡ false → path.now ≢ name.now }
+    ensures stays { F.held files.new ≡ F.held files.old }
+{
+    path == name || files.are_same(name, path)
+}
