@@ -1,8 +1,8 @@
 -- What is told of traces, line after line.
-use Rattle.std.proofs.Common.{◌≡◌, ◌∙◌, ◌+◌, ◌-◌, ◌<◌, ◌≤◌, ◌∷◌, ◌++◌, ℕ, [], List, None, Option, Some, ap, arith, drop, get_or, length, refl, subst, sym, take}
+use Rattle.std.proofs.Common.{◌≡◌, ◌∙◌, ◌+◌, ◌-◌, ◌<◌, ◌≤◌, ◌∷◌, ◌++◌, ℕ, [], List, None, OnOk, Option, Result, Some, ap, arith, drop, get_or, length, refl, subst, sym, take}
 use Rattle.std.proofs.lemmas.List.{append-nil, append_assoc}
 use Rattle.std.specs.Prelude.{codes, decimal}
-use Rattle.explore_command.specs.Telling.{AreRemarked, AreRemarks, GrowsBy, IsRemark, TellsWay, TellsWays}
+use Rattle.explore_command.specs.Telling.{AreReasons, AreRemarked, AreRemarks, GrowsBy, IsRemark, TellsWay, TellsWays}
 use Rattle.architecture_outcomes.specs.declared.outcome.Outcome.{Outcome}
 use Rattle.explore_command.proofs.Refused.{behind_first, nothing}
 use Rattle.architecture_outcomes.specs.declared.outcome.Way.{Way}
@@ -42,6 +42,16 @@ pub all_told : (number : ℕ) (old lines : List ℕ) (left all : List Overtaking
 all_told number old lines left all few told =
     (told.done, told.grown, subst (AreRemarks number all) (append-nil told.done) (told.whole [] (subst (λ (pairs : List Overtaking). AreRemarks number pairs []) (sym (none_of left few)) refl)))
 
+-- where there are none, one line tells so
+pub none_reasoned : {T E : Type 0} (r : Result T E) (number : ℕ) (old new : List ℕ) (pairs all : List Overtaking) → pairs ≡ all → length pairs ≡ 0 → OnOk r (GrowsBy old new (IsRemark number)) → OnOk r (GrowsBy old new (AreReasons number all))
+none_reasoned {T} {E} r number old new pairs all same none told =
+    subst (λ (ps : List Overtaking). OnOk r (GrowsBy old new (AreReasons number ps))) (sym (none_of pairs (omega (arith, none))) ∙ same) told
+
+pub some_reasoned : {T E : Type 0} (r : Result T E) (number : ℕ) (old new : List ℕ) (pairs all : List Overtaking) → pairs ≡ all → 0 < length pairs → OnOk r (GrowsBy old new (AreRemarks number pairs)) → OnOk r (GrowsBy old new (AreReasons number all))
+some_reasoned r number old new [] all same some told = absurd (omega (arith, some))
+some_reasoned r number old new (pair ∷ rest) all same some told =
+    subst (λ (ps : List Overtaking). OnOk r (GrowsBy old new (AreReasons number ps))) same told
+
 -- ---- of all outcomes
 
 pub record HasToldWays (number : ℕ) (lines : List ℕ) (left all : List Outcome) : Type 0 where
@@ -69,9 +79,13 @@ some_remarks number (pair ∷ rest) =
     let line : List ℕ = codes "outcome " ++ (decimal number ++ (codes ": " ++ ([] ++ codes "\n"))) in
     (line ++ more.0, (line, more.0, refl, ([], refl), more.1))
 
+some_reasons : (number : ℕ) (pairs : List Overtaking) → (text : List ℕ) × AreReasons number pairs text
+some_reasons number [] = (codes "outcome " ++ (decimal number ++ (codes ": " ++ ([] ++ codes "\n"))), ([], refl))
+some_reasons number (pair ∷ rest) = some_remarks number (pair ∷ rest)
+
 some_of_way : (number : ℕ) (way : Way) → (text : List ℕ) × TellsWay number way text
 some_of_way number (Machine script) = ([], refl)
-some_of_way number (ModelAlone trace) = some_remarks number (overtakings trace.history)
+some_of_way number (ModelAlone trace) = some_reasons number (overtakings trace.history)
 some_of_way number (Model trace) = ([], refl)
 
 some_of_ways : (number : ℕ) (outcomes : List Outcome) → (text : List ℕ) × TellsWays number outcomes text

@@ -12,7 +12,7 @@ use Rattle.text_fields.specs.Writing.{Begins}
 abbrev pub GrowsBy : List ℕ → List ℕ → (List ℕ → Type 0) → Type 0
 GrowsBy old new P = (added : List ℕ) × (new ≡ old ++ added) × P added
 
--- a line with the outcome's number; what it says of the two operations is left open
+-- a line with the outcome's number; what else it says is left open
 abbrev pub IsRemark : ℕ → List ℕ → Type 0
 IsRemark number line = (remark : List ℕ) × (line ≡ codes "outcome " ++ (decimal number ++ (codes ": " ++ (remark ++ codes "\n"))))
 
@@ -21,10 +21,15 @@ abbrev pub AreRemarks : ℕ → List Overtaking → List ℕ → Type 0
 AreRemarks number [] text = text ≡ []
 AreRemarks number (pair ∷ rest) text = (line : List ℕ) × (more : List ℕ) × (text ≡ line ++ more) × IsRemark number line × AreRemarks number rest more
 
+-- where none overtakes another a line too, on what else the machine doesn't do
+abbrev pub AreReasons : ℕ → List Overtaking → List ℕ → Type 0
+AreReasons number [] text = IsRemark number text
+AreReasons number (pair ∷ rest) text = AreRemarks number (pair ∷ rest) text
+
 -- those of the trace of an outcome that only the memory model allows; of the others none
 abbrev pub TellsWay : ℕ → Way → List ℕ → Type 0
 TellsWay number (Machine script) text = text ≡ []
-TellsWay number (ModelAlone trace) text = AreRemarks number (overtakings trace.history) text
+TellsWay number (ModelAlone trace) text = AreReasons number (overtakings trace.history) text
 TellsWay number (Model trace) text = text ≡ []
 
 -- those of each outcome, counted from a number on

@@ -2,6 +2,7 @@
 
 mod allowed;
 mod keeping;
+mod reservations;
 mod searching;
 mod telling;
 

@@ -1,16 +1,18 @@
 //! What the traces of outcomes show that only the memory model allows.
 
 ghost use Rattle.std.specs.Prelude.{IfOk, OnOk};
-ghost use Rattle.explore_command.specs.Telling.{AreRemarks, GrowsBy, IsRemark, TellsWay, TellsWays};
+ghost use Rattle.explore_command.specs.Telling.{AreReasons, AreRemarks, GrowsBy, IsRemark, TellsWay, TellsWays};
 ghost use Rattle.notes.specs.Overtaking.{overtakings};
 
+use crate::architecture::reservations::ReservationNote;
 use architecture_outcomes::{Outcome, Way};
-use notes::{OvertakingNote, overtakings};
+use notes::{Overtaking, OvertakingNote, overtakings};
 use std::alloc::{AllocError, Global};
+use std::fmt::Display;
 use trace_recorder::Trace;
 
 /// Of each outcome of the memory model alone which operations of its trace overtake others, and what would forbid it, a
-/// line each.
+/// line each, or that none does.
 pub(crate) fn remarks_on(alloc: Global, outcomes: &[Outcome]) -> Result<Vec<u8>, AllocError>
     ensures { IfOk result (λ lines. TellsWays 1 outcomes.now lines.items) }
 {
@@ -30,8 +32,25 @@ fn add_way(alloc: Global, lines: &mut Vec<u8>, number: usize, way: &Way) -> Resu
 {
     match way {
         Way::Machine(_) | Way::Model(_) => Ok(()),
-        Way::ModelAlone(trace) => add_overtakings(alloc, lines, number, trace),
+        Way::ModelAlone(trace) => add_reasons(alloc, lines, number, trace),
     }
+}
+
+/// Which operations overtake others, or that none does.
+fn add_reasons(
+    alloc: Global,
+    lines: &mut Vec<u8>,
+    number: usize,
+    trace: &Trace,
+) -> Result<(), AllocError>
+    ensures { OnOk result (GrowsBy lines.old.items lines.new.items (AreReasons number (overtakings trace.now.history))) }
+{
+    let pairs = overtakings(alloc, trace)?;
+    if pairs.is_empty() {
+        let remark = ReservationNote::of(alloc, trace)?;
+        return add_remark(alloc, lines, number, remark);
+    }
+    add_overtakings(alloc, lines, number, trace, &pairs)
 }
 
 fn add_overtakings(
@@ -39,11 +58,11 @@ fn add_overtakings(
     lines: &mut Vec<u8>,
     number: usize,
     trace: &Trace,
+    pairs: &[Overtaking],
 ) -> Result<(), AllocError>
-    ensures { OnOk result (GrowsBy lines.old.items lines.new.items (AreRemarks number (overtakings trace.now.history))) }
+    ensures { OnOk result (GrowsBy lines.old.items lines.new.items (AreRemarks number pairs.now)) }
 {
-    let pairs = overtakings(alloc, trace)?;
-    let mut rest = pairs.as_slice();
+    let mut rest = pairs;
     while let [first, tail @ ..] = rest {
         let overtaking = *first;
         add_remark(alloc, lines, number, OvertakingNote { trace, overtaking })?;
@@ -52,11 +71,11 @@ fn add_overtakings(
     Ok(())
 }
 
-fn add_remark(
+fn add_remark<D: Display + Drop>(
     alloc: Global,
     lines: &mut Vec<u8>,
     number: usize,
-    remark: OvertakingNote<'_>,
+    remark: D,
 ) -> Result<(), AllocError>
     ensures { OnOk result (GrowsBy lines.old.items lines.new.items (IsRemark number)) }
 {
