@@ -1,7 +1,8 @@
 pub mod Explored
 pub mod Faults
 pub mod Kept
-mod Lines
+pub mod Fitting
+pub mod Lines
 pub mod Refused
 mod Runs
 pub mod Asking

@@ -4,6 +4,7 @@ use Rattle.std.specs.Borrow.{Bor}
 use Rattle.std.specs.List.{list_any}
 use Rattle.std.specs.Str.{bytes_eq}
 use Rattle.bstr.specs.Text.{lines_of, without_terminator}
+use Rattle.explore_command.specs.Patterns.{fits, is_pattern}
 
 -- a digit or a space
 abbrev pub is_of_number : ℕ → Bool
@@ -38,9 +39,20 @@ outcome_in line = without_source (without_number line)
 abbrev pub allowed_lines : List ℕ → List (List ℕ)
 allowed_lines text = map outcome_in (map without_terminator (lines_of text))
 
--- one of the lines of the text is this one
+-- a line of the text allows an outcome: it is the same, or has a * and fits it
+abbrev pub allows : List ℕ → List ℕ → Bool
+allows outcome line = bytes_eq outcome line || (is_pattern line && fits line outcome)
+
+-- one of the lines of the text allows this outcome
 abbrev pub is_allowed_line : List ℕ → List ℕ → Bool
-is_allowed_line text line = list_any (bytes_eq line) (allowed_lines text)
+is_allowed_line text outcome = list_any (allows outcome) (allowed_lines text)
 
 abbrev pub has_line : List (Bor (List ℕ)) → List ℕ → Bool
 has_line lines line = list_any (λ each. bytes_eq line each.now) lines
+
+abbrev pub has_pattern : List (Bor (List ℕ)) → List ℕ → Bool
+has_pattern patterns line = list_any (λ each. fits each.now line) patterns
+
+-- it is one of the lines, or fits one of the patterns
+abbrev pub knows : (lines patterns : List (Bor (List ℕ))) → List ℕ → Bool
+knows lines patterns line = has_line lines line || has_pattern patterns line

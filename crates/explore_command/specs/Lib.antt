@@ -11,4 +11,5 @@ pub mod ModelKeeping
 pub mod Searching
 pub mod Telling
 pub mod Passing
+pub mod Patterns
 pub mod Sparing

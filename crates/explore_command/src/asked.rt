@@ -9,6 +9,7 @@ ghost use Rattle.explore_command.specs.Exploring.{IsAllowFile, IsFirstFault, IsN
 ghost use Rattle.explore_command.specs.Keeping.{HasName};
 
 use crate::keeping::check_folder;
+use crate::no_outcomes::remark_no_outcomes;
 use command_files::{Fault, Files, contents, image_in, named_config, out_of_limits};
 use command_settings::Explore;
 use elf_loader::Image;
@@ -71,7 +72,7 @@ impl Asked {
     }
 }
 
-/// The bytes of the file that was named, if one was.
+/// The bytes of the file that was named, if one was. Which lines are no outcome is remarked.
 pub(crate) fn allow_file<'a, F: Files>(
     alloc: Global,
     files: &mut F,
@@ -85,5 +86,6 @@ pub(crate) fn allow_file<'a, F: Files>(
         return Ok(None);
     };
     let bytes = contents(alloc, files, file)?;
+    remark_no_outcomes(alloc, files, file, &bytes);
     Ok(Some(bytes))
 }

@@ -11,6 +11,8 @@ mod findings;
 mod judging;
 mod keeping;
 mod laws;
+mod no_outcomes;
+mod patterns;
 mod sample;
 mod show;
 mod sparing;
