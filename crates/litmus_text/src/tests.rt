@@ -48,8 +48,8 @@ fn stop_of(alloc: Global, text: &[u8]) -> Option<(usize, Cause)> {
 }
 
 #[test]
-fn texts_stop_being_tests(rt: HostRuntime) -> Result<(), Fail> {
-    let rows: [(&[u8], usize, Cause); 12] = [
+fn texts_stop_down_to_the_columns(rt: HostRuntime) -> Result<(), Fail> {
+    let rows: [(&[u8], usize, Cause); 7] = [
         (
             b"RISCV T\n{}\nP0;\nlw x5,(x6);\nexists (* true",
             5,
@@ -81,6 +81,16 @@ fn texts_stop_being_tests(rt: HostRuntime) -> Result<(), Fail> {
             Cause::Immediate,
         ),
         (b"RISCV T\n{}\nP0;\nnop|nop;\nexists true", 4, Cause::Cell),
+    ];
+    for (text, line, cause) in rows {
+        assert_eq!(rt; stop_of(rt.alloc(), text), Some((line, cause)));
+    }
+    Ok(())
+}
+
+#[test]
+fn texts_stop_at_the_question(rt: HostRuntime) -> Result<(), Fail> {
+    let rows: [(&[u8], usize, Cause); 5] = [
         (
             b"RISCV T\n{}\nP0;\nnop;\nexists true\nfalse",
             6,
