@@ -1,3 +1,4 @@
+pub mod Circles
 pub mod Errors
 pub mod Schedules
 pub mod Sublists

@@ -37,6 +37,11 @@ pub record LeadsThere (image : Initial) (config : Config) (Holds : State → Typ
 abbrev pub HasResults : List HartEnd → State → Type 0
 HasResults outcome s = results s ≡ outcome
 
+-- some events lead from one state to another
+pub record Leads (s t : State) : Type 0 where
+  pub events : List Event
+  pub there : after_events s events ≡ t
+
 -- ---- a machine with the events that changed it
 
 pub record Played : Type 0 where

@@ -1,6 +1,7 @@
 //! Lists of machine events: made of the steps of a flat machine, sampled, and shortened.
 #![tactic(auto)]
 
+mod circling;
 mod errors;
 mod goal;
 mod player;
@@ -13,6 +14,7 @@ mod shortening;
 mod spare;
 mod transactions;
 
+pub use circling::{Circle, Reading, circles};
 pub use errors::RealiseError;
 pub use goal::{Goal, HartResults};
 pub use realising::realise;

@@ -6,7 +6,7 @@ ghost use Rattle.machine_model.specs.Events.{after_events, verdict};
 ghost use Rattle.machine_model.specs.Views.{opening};
 ghost use Rattle.coherent_machine.specs.Machine.{IsFirstRefusal, Replayed, replayed_from};
 ghost use Rattle.coherent_machine.specs.Moves.{AreMoves};
-ghost use Rattle.schedules.specs.Schedules.{AnswersAs, MayAdd, Played, start_of};
+ghost use Rattle.schedules.specs.Schedules.{AnswersAs, Leads, MayAdd, Played, start_of};
 ghost use Rattle.schedules.specs.Sublists.{IsSublist};
 
 use crate::errors::Fault;
@@ -57,10 +57,12 @@ impl Player {
 
     /// Applies an event, and keeps it where it changes the machine. None where it names a hart, word,
     /// line or count that there isn't.
+    #[tactic(auto, using(crate::proofs::Leading::leads_by, crate::proofs::Leading::leads_nowhere))]
     pub(crate) fn apply(&mut self, event: Event) -> Result<Option<Outcome>, Fault>
         ensures start { start_of self.new ≡ start_of self.old }
         ensures kept { MayAdd self.old.events event self.new.events }
         ensures answers { AnswersAs (verdict self.old.machine event) self.old.machine result self.new.machine }
+        ensures leads { OnOk result (Leads self.old.machine self.new.machine) }
     {
         changes_are_counted();
         self.events.reserve(1)?;

@@ -1,9 +1,9 @@
 //! The machine's events that do what a flat machine's events do.
 
-ghost use Rattle.std.specs.Prelude.{◌≡◌, IfErr, IfOk, length};
+ghost use Rattle.std.specs.Prelude.{◌≡◌, IfErr, IfOk, OnOk, length};
 ghost use Rattle.flat_model.specs.Shown.{results, told};
 ghost use Rattle.schedules.specs.Errors.{IsOneOf};
-ghost use Rattle.schedules.specs.Schedules.{EachMoves, Replays, led, start_of};
+ghost use Rattle.schedules.specs.Schedules.{EachMoves, Leads, Replays, led, start_of};
 
 use crate::errors::{Fault, RealiseError};
 use crate::player::Player;
@@ -68,18 +68,37 @@ impl Player {
     }
 
     // A step or a drain, for which the line is fetched where it is missing.
-    fn access(&mut self, hart: u8, event: Event) -> Result<bool, Fault>
-        ensures { start_of self.new ≡ start_of self.old }
+    #[tactic(auto, using(crate::proofs::Leading::leads_on, crate::proofs::Leading::leads_nowhere))]
+    pub(crate) fn access(&mut self, hart: u8, event: Event) -> Result<bool, Fault>
+        ensures start { start_of self.new ≡ start_of self.old }
+        ensures leads { OnOk result (Leads self.old.machine self.new.machine) }
     {
         for _try in 0..MOST_TRIES {
             let outcome = self.apply(event)?;
-            match outcome {
-                Some(Outcome::Missed(_)) => self.finish_miss(hart)?,
-                Some(Outcome::SetFull) => self.make_room(hart, event)?,
-                _ => return Ok(has_stepped(outcome) || outcome == Some(Outcome::Drained)),
+            if !self.make_way(hart, event, outcome)? {
+                return Ok(has_stepped(outcome) || outcome == Some(Outcome::Drained));
             }
         }
         Ok(false)
+    }
+
+    // Fetches the line that the event misses, or makes room for it. Whether there is reason to try it again.
+    #[tactic(auto, using(crate::proofs::Leading::leads_on, crate::proofs::Leading::leads_nowhere))]
+    fn make_way(&mut self, hart: u8, event: Event, outcome: Option<Outcome>) -> Result<bool, Fault>
+        ensures start { start_of self.new ≡ start_of self.old }
+        ensures leads { OnOk result (Leads self.old.machine self.new.machine) }
+    {
+        match outcome {
+            Some(Outcome::Missed(_)) => {
+                self.finish_miss(hart)?;
+                Ok(true)
+            }
+            Some(Outcome::SetFull) => {
+                self.make_room(hart, event)?;
+                Ok(true)
+            }
+            _ => Ok(false),
+        }
     }
 
     // A store conditional, whose hart has lost the line of its reserved word.

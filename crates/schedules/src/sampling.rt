@@ -9,7 +9,7 @@ use crate::player::{MOST_HARTS, Player};
 use crate::schedule::Schedule;
 use coherent_machine::Views;
 use elf_loader::Image;
-use machine_types::{Config, Event, Outcome};
+use machine_types::{Config, Event, MAX_HARTS, Outcome};
 use rand_core::{Rng, SeedableRng};
 use rand_xoshiro::SplitMix64;
 use std::alloc::{AllocError, Global};
@@ -18,9 +18,20 @@ use tl_types::Channel;
 /// One pick in so many is an eviction, if a cache may hold a line.
 const PICKS_AN_EVICTION: u64 = 16;
 
+/// So many picks at most a run favours one hart before it draws another.
+const LONGEST_BURST: u64 = 64;
+
+/// How often a pick that is held back is drawn again.
+const DRAWS: usize = 8;
+
+/// One step in so many of a hart that isn't favoured is taken at once, and one drain in so many of a run that delays them.
+const TAKEN_STEP: u64 = 16;
+
+const TAKEN_DRAIN: u64 = 64;
+
 const CHANNELS: [Channel; 5] = [Channel::A, Channel::B, Channel::C, Channel::D, Channel::E];
 
-/// A schedule whose events are picked at random, until all harts have ended and neither stores nor
+/// A schedule whose events are picked at random, by a temper that is drawn for it, until all harts have ended and neither stores nor
 /// messages wait, after `most_events` tries, or where a limit of the machine is met. An event that stalls
 /// counts as a try. The same seed gives the same schedule.
 pub fn sample(
@@ -63,10 +74,36 @@ impl Player {
     }
 }
 
+/// How a run picks among what may happen. Evenly picked events let harts go on side by side, and stores wait shortly; what
+/// is wrong with a lock often shows only where one hart is far ahead of another, or its stores are late.
+#[derive(Clone, Copy, PartialEq, Eq)]
+enum Temper {
+    /// All alike.
+    Even,
+    /// One hart's steps for a while, then another's.
+    Bursts,
+    /// The same, and stores drain late.
+    LateStores,
+}
+
+impl Temper {
+    fn drawn(generator: &mut SplitMix64) -> Temper {
+        match generator.next_u64() % 4 {
+            0 => Temper::Even,
+            1 => Temper::Bursts,
+            _ => Temper::LateStores,
+        }
+    }
+}
+
 /// Picks events that a machine may take.
 #[derive(Drop)]
 struct Picker {
     generator: SplitMix64,
+    temper: Temper,
+    // Whose steps are favoured, and for how many picks more.
+    favoured: u8,
+    burst: u64,
     // What may happen next.
     choices: Vec<Event>,
     // The lines that caches asked for, as evictions, each once; one that is neither held nor asked for any
@@ -76,8 +113,13 @@ struct Picker {
 
 impl Picker {
     fn new(alloc: Global, seed: u64) -> Picker {
+        let mut generator = SplitMix64::seed_from_u64(seed);
+        let temper = Temper::drawn(&mut generator);
         Picker {
-            generator: SplitMix64::seed_from_u64(seed),
+            generator,
+            temper,
+            favoured: 0,
+            burst: 0,
             choices: Vec::new(alloc),
             evictions: Vec::new(alloc),
         }
@@ -96,8 +138,47 @@ impl Picker {
             let place = self.generator.next_u64() as usize % self.evictions.len();
             return Ok(Some(self.evictions[place]));
         }
-        let place = self.generator.next_u64() as usize % self.choices.len();
-        Ok(Some(self.choices[place]))
+        self.favour(views.config().harts);
+        let mut picked = self.draw();
+        for _ in 1..DRAWS {
+            match picked {
+                Some(event) if self.is_held_back(event) => picked = self.draw(),
+                _ => break,
+            }
+        }
+        Ok(picked)
+    }
+
+    // Draws whose steps are favoured, where the last one's were for long enough.
+    fn favour(&mut self, harts: u32) {
+        if self.burst > 0 {
+            self.burst -= 1;
+            return;
+        }
+        let drawn = self.generator.next_u64() % u64::from(harts.clamp(1, MAX_HARTS));
+        self.favoured = drawn as u8;
+        self.burst = self.generator.next_u64() % LONGEST_BURST;
+    }
+
+    fn draw(&mut self) -> Option<Event> {
+        let count = (self.choices.len() as u64).max(1);
+        let place = (self.generator.next_u64() % count) as usize;
+        self.choices.get(place).copied()
+    }
+
+    // Whether another event is to be drawn in place of this one, if there is any.
+    fn is_held_back(&mut self, event: Event) -> bool {
+        match event {
+            Event::Step { hart } => {
+                self.temper != Temper::Even
+                    && hart != self.favoured
+                    && self.generator.next_u64() % TAKEN_STEP != 0
+            }
+            Event::Drain { .. } => {
+                self.temper == Temper::LateStores && self.generator.next_u64() % TAKEN_DRAIN != 0
+            }
+            _ => false,
+        }
     }
 
     // The hart's step, its drains and its deliveries.

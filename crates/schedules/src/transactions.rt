@@ -1,7 +1,7 @@
 //! Whole transactions, each of whose messages arrives before anything else happens.
 
-ghost use Rattle.std.specs.Prelude.{◌≡◌};
-ghost use Rattle.schedules.specs.Schedules.{start_of};
+ghost use Rattle.std.specs.Prelude.{◌≡◌, OnOk};
+ghost use Rattle.schedules.specs.Schedules.{Leads, start_of};
 
 use crate::errors::Fault;
 use crate::player::{MOST_HARTS, Player};
@@ -11,8 +11,10 @@ use rv32_exec::Action;
 use tl_types::Channel;
 
 impl Player {
+    #[tactic(auto, using(crate::proofs::Leading::leads_on, crate::proofs::Leading::leads_nowhere))]
     fn deliver(&mut self, channel: Channel, hart: u8) -> Result<(), Fault>
-        ensures { start_of self.new ≡ start_of self.old }
+        ensures start { start_of self.new ≡ start_of self.old }
+        ensures leads { OnOk result (Leads self.old.machine self.new.machine) }
     {
         self.apply(Event::Deliver { channel, hart })?;
         Ok(())
@@ -20,8 +22,10 @@ impl Player {
 
     /// The line that the hart has just asked for comes into its cache: its Acquire arrives, the Probes
     /// and their answers, the Grant and its acknowledgement. An empty queue delivers nothing.
+    #[tactic(auto, using(crate::proofs::Leading::leads_on, crate::proofs::Leading::leads_nowhere))]
     pub(crate) fn finish_miss(&mut self, hart: u8) -> Result<(), Fault>
-        ensures { start_of self.new ≡ start_of self.old }
+        ensures start { start_of self.new ≡ start_of self.old }
+        ensures leads { OnOk result (Leads self.old.machine self.new.machine) }
     {
         self.deliver(Channel::A, hart)?;
         for other in 0..MOST_HARTS {
@@ -29,12 +33,15 @@ impl Player {
             self.deliver(Channel::C, other)?;
         }
         self.deliver(Channel::D, hart)?;
-        self.deliver(Channel::E, hart)
+        self.deliver(Channel::E, hart)?;
+        Ok(())
     }
 
     /// The hart's cache gives up a line, and is told that memory has it.
+    #[tactic(auto, using(crate::proofs::Leading::leads_on, crate::proofs::Leading::leads_nowhere))]
     pub(crate) fn give_up(&mut self, hart: u8, line: u32) -> Result<(), Fault>
-        ensures { start_of self.new ≡ start_of self.old }
+        ensures start { start_of self.new ≡ start_of self.old }
+        ensures leads { OnOk result (Leads self.old.machine self.new.machine) }
     {
         self.apply(Event::Evict { hart, line })?;
         self.deliver(Channel::C, hart)?;
@@ -43,8 +50,10 @@ impl Player {
 
     /// The hart's cache gives up a line of the set of what the event accesses, where it holds one: not
     /// the line of its reserved word, if there is another.
+    #[tactic(auto, using(crate::proofs::Leading::leads_on, crate::proofs::Leading::leads_nowhere))]
     pub(crate) fn make_room(&mut self, hart: u8, event: Event) -> Result<(), Fault>
-        ensures { start_of self.new ≡ start_of self.old }
+        ensures start { start_of self.new ≡ start_of self.old }
+        ensures leads { OnOk result (Leads self.old.machine self.new.machine) }
     {
         if let Some(line) = self.spare_line(hart, event) {
             self.give_up(hart, line)?;
@@ -66,7 +75,7 @@ impl Player {
     }
 
     /// The address that the event reads or writes in memory.
-    fn accessed(&self, hart: u8, event: Event) -> Option<u32> {
+    pub(crate) fn accessed(&self, hart: u8, event: Event) -> Option<u32> {
         let views = self.views();
         let place = usize::from(hart);
         if place >= views.harts() {

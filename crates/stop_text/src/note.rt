@@ -3,6 +3,7 @@
 ghost use Rattle.std.specs.Prelude.{◌≡◌, ◌<◌, length};
 ghost use Rattle.stop_text.specs.Standing.{code_of as spec_code_of};
 
+use crate::places::put_place;
 use crate::reaching::{bytes, target};
 use crate::standing::standing;
 use assembly::spell_assembly;
@@ -39,20 +40,6 @@ impl StopNote<'_> {
             Status::Running | Status::Exited(_) => None,
         }
     }
-
-    fn put_place<W: fmt::Write>(&self, pc: u32, f: &mut Formatter<W>) -> fmt::Result {
-        write!(f, "0x{pc:08x}")?;
-        let Some(place) = self.names.nearest(pc) else {
-            return Ok(());
-        };
-        let Ok(name) = str::from_utf8(place.name) else {
-            return Ok(());
-        };
-        match place.offset {
-            0 => write!(f, " <{name}>"),
-            offset => write!(f, " <{name}+0x{offset:x}>"),
-        }
-    }
 }
 
 impl Display for StopNote<'_> {
@@ -63,7 +50,7 @@ impl Display for StopNote<'_> {
             if let Some(code) = self.code_of(hart) {
                 let stopped = standing(self.trace, hart);
                 write!(f, "{between}hart {hart}: stop {code} at ")?;
-                self.put_place(stopped.pc, f)?;
+                put_place(self.names, stopped.pc, f)?;
                 f.write_str(": ")?;
                 put_cause(self.trace.image(), &stopped, f)?;
                 between = "; ";

@@ -11,17 +11,18 @@ ghost use Rattle.command_files.specs.Faults.{IsReplayFault};
 use crate::explain::{NamedImage, named_image_in};
 use crate::idle::IdleNote;
 use crate::replay::composing::{CompositionError, replay_and_write};
+use crate::replay::ends::{EndNote, circles_behind};
 use coherent_machine::Machine;
 use command_files::{Fault, Files, config_of, print_ends, remark, remark_refused, script_in};
 use command_settings::Replay;
 use machine_types::MemoryModel;
 use std::alloc::Global;
 use std::io::Write;
-use stop_text::StopNote;
+use stop_text::{CircleNote, StopNote};
 use trace_text::Script;
 
 /// Reads and judges the script, then the image, replays, and prints the trace on `out` and each hart's
-/// end on `err`; where and why harts stopped is remarked, and where most events change nothing. Where an event is refused
+/// end on `err`; where and why harts stopped or go round is remarked, and where most events change nothing. Where an event is refused
 /// nothing is printed.
 pub fn replay_files<'a, F: Files, O: Write, E: Write>(
     alloc: Global,
@@ -61,11 +62,22 @@ pub fn replay_files<'a, F: Files, O: Write, E: Write>(
     let (trace, outputs) = machine.into_parts();
     // Standard error has no other place to tell that it takes no more.
     let _ = print_ends(trace.statuses(), outputs.as_slice(), err);
-    let stops = StopNote {
-        trace: &trace,
-        names: &names,
+    let found = circles_behind(alloc, &trace, &script, wanted.model);
+    let note = EndNote {
+        stops: StopNote {
+            trace: &trace,
+            names: &names,
+        },
+        circles: CircleNote {
+            circles: found.as_slice(),
+            image: trace.image(),
+            names: &names,
+        },
+        idle,
     };
-    remark_ends(alloc, files, stops, idle);
+    if note.is_needed() {
+        remark(alloc, files, note);
+    }
     Ok(())
 }
 
@@ -78,16 +90,4 @@ fn idle_in(
 ) -> Option<IdleNote> {
     let config = config_of(script, model);
     IdleNote::of(alloc, machine, config, script.events.as_slice())
-}
-
-/// Remarks where and why harts stopped, and that most of the script's events changed nothing.
-fn remark_ends<F: Files>(alloc: Global, files: &mut F, stops: StopNote<'_>, idle: Option<IdleNote>)
-    ensures { F.held files.new ≡ F.held files.old }
-{
-    match idle {
-        Some(idle) if stops.is_needed() => remark(alloc, files, format_args!("{stops}; {idle}")),
-        Some(idle) => remark(alloc, files, idle),
-        None if stops.is_needed() => remark(alloc, files, stops),
-        None => {}
-    }
 }

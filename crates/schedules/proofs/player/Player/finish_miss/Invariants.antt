@@ -1,6 +1,9 @@
 use Rattle.std.proofs.Common.{◌≡◌}
-use Rattle.schedules.specs.Schedules.{start_of}
+use Rattle.schedules.specs.Schedules.{Leads, start_of}
 use Rattle.schedules.proofs.player.Player.finish_miss.Given as goal
 
 abbrev pub invariant-loop-other : goal.invariant-loop-other
-invariant-loop-other l = start_of l.self ≡ start_of l.fn.self
+invariant-loop-other l = record {
+  start : start_of l.self ≡ start_of l.fn.self;
+  leads : Leads l.fn.self.machine l.self.machine;
+}
