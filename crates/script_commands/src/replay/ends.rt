@@ -1,7 +1,9 @@
 //! What a user may want to know of how a replay ended.
 
+ghost use Rattle.std.specs.Prelude.{◌≡◌};
+
 use crate::idle::IdleNote;
-use command_files::config_of;
+use command_files::{Files, config_of, remark};
 use elf_symbols::Symbols;
 use machine_types::MemoryModel;
 use schedules::{Circle, circles};
@@ -23,9 +25,13 @@ pub(crate) struct EndNote<'a> {
 }
 
 impl EndNote<'_> {
-    /// Whether there is any of it.
-    pub(crate) fn is_needed(&self) -> bool {
-        self.stops.is_needed() || !self.circles.circles.is_empty() || self.idle.is_some()
+    /// Remarks it, if there is any.
+    pub(crate) fn tell<F: Files>(self, alloc: Global, files: &mut F)
+        ensures { F.held files.new ≡ F.held files.old }
+    {
+        if self.stops.is_needed() || !self.circles.circles.is_empty() || self.idle.is_some() {
+            remark(alloc, files, self);
+        }
     }
 }
 

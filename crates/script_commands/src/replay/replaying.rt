@@ -13,7 +13,7 @@ use crate::idle::IdleNote;
 use crate::replay::composing::{CompositionError, replay_and_write};
 use crate::replay::ends::{EndNote, circles_behind};
 use coherent_machine::Machine;
-use command_files::{Fault, Files, config_of, print_ends, remark, remark_refused, script_in};
+use command_files::{Fault, Files, config_of, print_ends, remark_refused, script_in};
 use command_settings::Replay;
 use machine_types::MemoryModel;
 use std::alloc::Global;
@@ -75,9 +75,7 @@ pub fn replay_files<'a, F: Files, O: Write, E: Write>(
         },
         idle,
     };
-    if note.is_needed() {
-        remark(alloc, files, note);
-    }
+    note.tell(alloc, files);
     Ok(())
 }
 
