@@ -14,7 +14,7 @@ impl Display for LengthNote<'_> {
         let count = operations_of(self.0);
         write!(
             f,
-            "the trace has {count} memory operations, and at most {MAX_OPERATIONS} are judged: fewer harts or a shorter run has fewer"
+            "the trace has {count} memory operations, and at most {MAX_OPERATIONS} are judged: to judge how the run begins, replay its journal cut short, as by `head -n 2000`, which may cut it anywhere"
         )
     }
 }
