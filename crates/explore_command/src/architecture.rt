@@ -2,7 +2,7 @@
 
 mod allowed;
 mod keeping;
-mod reservations;
+mod reserving;
 mod searching;
 mod telling;
 

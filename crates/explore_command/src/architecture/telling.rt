@@ -4,7 +4,7 @@ ghost use Rattle.std.specs.Prelude.{IfOk, OnOk};
 ghost use Rattle.explore_command.specs.Telling.{AreReasons, AreRemarks, GrowsBy, IsRemark, TellsWay, TellsWays};
 ghost use Rattle.notes.specs.Overtaking.{overtakings};
 
-use crate::architecture::reservations::ReservationNote;
+use crate::architecture::reserving::ReservationNote;
 use architecture_outcomes::{Outcome, Way};
 use notes::{Overtaking, OvertakingNote, overtakings};
 use std::alloc::{AllocError, Global};
