@@ -1,0 +1,15 @@
+//! `rvtl litmus`: the answers to litmus tests.
+#![tactic(auto)]
+
+mod fault;
+mod files;
+mod line;
+mod logs;
+mod program;
+mod rows;
+mod search;
+mod test;
+mod usage;
+mod wanted;
+
+pub use line::litmus_line;
