@@ -250,6 +250,7 @@ fn check_of<'a>(matches: &ArgMatches<'a>) -> Option<Check<'a>>
     let trace = matches.get_str("TRACE")?;
     Some(Check {
         messages: matches.get_flag("messages"),
+        ended: matches.get_flag("ended"),
         model,
         trace,
     })

@@ -201,6 +201,8 @@ pub struct Fences<'a> {
 pub struct Check<'a> {
     /// Judge the messages in place of the order.
     pub messages: bool,
+    /// Each question among the messages has its answer by the end.
+    pub ended: bool,
     /// Under which the order is judged.
     pub model: MemoryModel,
     pub trace: &'a str,
