@@ -16,7 +16,6 @@ use command_files::{Fault, Files, Unshown};
 use command_settings::{Check, Explore, Settings, Show};
 use event_stream::Strictness;
 use explore_command::{Judgement, architecture_files, explore_files, sample_files, show_files};
-use fences_command::fences_files;
 use message_judge::MessageVerdict;
 use progress_line::Progress;
 use run_command::run_files;
@@ -77,10 +76,6 @@ pub(crate) fn carry_out<
         }
         Settings::Explore(explore) => explored(alloc, files, explore, out, err, progress),
         Settings::Show(show) => shown(alloc, files, &show, out, err, progress),
-        Settings::Fences(fences) => {
-            fences_files(alloc, files, fences, out, progress)?;
-            Ok(Judgement::Allowed)
-        }
         Settings::Check(check) => checked(alloc, files, check, out, err),
     }
 }
@@ -173,7 +168,7 @@ fn checked<'a, F: Files, O: Write, E: Write>(
     ensures spared { F.held files.new ≡ F.held files.old }
 {
     if wanted.messages {
-        return match check_messages(alloc, files, wanted.trace, wanted.ended, out, err)? {
+        return match check_messages(alloc, files, wanted.trace, out, err)? {
             MessageVerdict::Lawful => Ok(Judgement::Allowed),
             MessageVerdict::Unlawful {
                 breach: _,

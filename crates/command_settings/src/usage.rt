@@ -3,22 +3,18 @@
 ghost use Rattle.std.specs.Prelude.{ℕ, ◌≡◌, ◌≢◌, ◌<◌, ◌^◌, IfErr, IfOk, IfSome, IsNone, List, OnOk, Some, map};
 ghost use Rattle.clap.specs.Words.{Row, Text, app_of, found_of, rows_of, subcommand_rows_of};
 ghost use Rattle.command_settings.specs.Refusals.{IsFitting, IsRefused, TellsConflict};
-ghost use Rattle.command_settings.specs.Settings.{AreConflicting, HasAll, HasNumber, IsChartMeant, IsCheckMeant, IsComplete, IsExplainMeant, IsExploreMeant, IsFencesMeant, IsMachineMeant, IsMeant, IsNamed, IsNumberIn, IsReplayMeant, IsRunMeant, IsAsked, name_of, shown_in};
-ghost use Rattle.command_settings.specs.Usage.{IsUsage, chart_arguments, check_arguments, explain_arguments, explore_arguments, fences_arguments, machine_arguments, replay_arguments, run_arguments};
+ghost use Rattle.command_settings.specs.Settings.{AreConflicting, HasAll, HasNumber, IsChartMeant, IsCheckMeant, IsComplete, IsExplainMeant, IsExploreMeant, IsMachineMeant, IsMeant, IsNamed, IsNumberIn, IsReplayMeant, IsRunMeant, IsAsked, name_of, shown_in};
+ghost use Rattle.command_settings.specs.Usage.{IsUsage, chart_arguments, check_arguments, explain_arguments, explore_arguments, machine_arguments, replay_arguments, run_arguments};
 
 use crate::commands::command;
 use crate::wanted::{
-    Chart, Check, Explain, Explore, Fences, MachineOptions, Replay, Run, Settings, SettingsError,
-    Show,
+    Chart, Check, Explain, Explore, MachineOptions, Replay, Run, Settings, SettingsError, Show,
 };
 use clap::error::ErrorKind;
 use clap::{ArgMatches, Command};
 use machine_types::MemoryModel;
 use std::alloc::{AllocError, Global};
 use std::convert::AsStr;
-
-/// How an exploration is asked for.
-const EXPLORE_USAGE: &str = "rvtl explore [OPTIONS] <IMAGE>";
 
 /// What the words ask for, of which the first is the program's name.
 pub fn settings<'a, S: AsStr>(alloc: Global, words: &'a [S]) -> Result<Settings<'a>, SettingsError>
@@ -46,7 +42,7 @@ fn settings_by<'a, S: AsStr>(
     match settings_of(&matches) {
         Some(settings) => {
             let settings = with_shown(alloc, &matches, settings)?;
-            agreeing(alloc, settings)
+            agreeing(command, settings)
         }
         // The usage asks for a subcommand and its files, so that the parse has refused such words.
         None => Err(without_subcommand(command)),
@@ -55,16 +51,16 @@ fn settings_by<'a, S: AsStr>(
 
 /// The refusal of words that name no subcommand.
 fn without_subcommand(command: &mut Command<'_>) -> SettingsError {
-    let wanted = "replay, explain, chart, run, explore, fences or check is wanted";
+    let wanted = "replay, explain, chart, run, explore or check is wanted";
     match command.error(ErrorKind::MissingSubcommand, wanted) {
         Ok(error) => SettingsError::Usage(error),
         Err(AllocError) => SettingsError::NoMemory,
     }
 }
 
-/// The settings, unless they don't go together: only those of an exploration may not.
+/// The settings, unless they don't go together.
 fn agreeing<'a>(
-    alloc: Global,
+    command: &mut Command<'a>,
     settings: Settings<'a>,
 ) -> Result<Settings<'a>, SettingsError>
     ensures same { IfOk result (λ agreed. agreed ≡ settings.entry) }
@@ -72,8 +68,7 @@ fn agreeing<'a>(
     ensures told { IfErr result (TellsConflict settings.entry) }
 {
     if let Some(conflict) = settings.conflict() {
-        let mut explore = Command::new(alloc, "explore").override_usage(EXPLORE_USAGE);
-        let error = explore.error(ErrorKind::ArgumentConflict, conflict)?;
+        let error = command.error(ErrorKind::ArgumentConflict, conflict)?;
         return Err(SettingsError::Usage(error));
     }
     Ok(settings)
@@ -134,7 +129,6 @@ fn settings_named<'a>(name: &str, given: &ArgMatches<'a>) -> Option<Settings<'a>
         "chart" => Some(Settings::Chart(chart_of(given)?)),
         "run" => Some(Settings::Run(run_of(given)?)),
         "explore" => Some(Settings::Explore(explore_of(given)?)),
-        "fences" => Some(Settings::Fences(fences_of(given)?)),
         "check" => Some(Settings::Check(check_of(given)?)),
         _ => None,
     }
@@ -227,20 +221,6 @@ fn explore_of<'a>(matches: &ArgMatches<'a>) -> Option<Explore<'a>>
     })
 }
 
-fn fences_of<'a>(matches: &ArgMatches<'a>) -> Option<Fences<'a>>
-    ensures meant { IfSome result (λ fences. HasAll (rows_of (found_of matches.now)) fences_arguments
-        → IsFencesMeant (rows_of (found_of matches.now)) fences) }
-    ensures missing { IsNone result → HasAll (rows_of (found_of matches.now)) fences_arguments → ⊥ }
-{
-    Some(Fences {
-        raw: matches.get_flag("raw"),
-        machine: machine_of(matches)?,
-        states: number_of(matches, "states")?,
-        window: number_of(matches, "window")?,
-        image: matches.get_str("IMAGE")?,
-    })
-}
-
 fn check_of<'a>(matches: &ArgMatches<'a>) -> Option<Check<'a>>
     ensures meant { IfSome result (λ check. HasAll (rows_of (found_of matches.now)) check_arguments
         → IsCheckMeant (rows_of (found_of matches.now)) check) }
@@ -250,7 +230,6 @@ fn check_of<'a>(matches: &ArgMatches<'a>) -> Option<Check<'a>>
     let trace = matches.get_str("TRACE")?;
     Some(Check {
         messages: matches.get_flag("messages"),
-        ended: matches.get_flag("ended"),
         model,
         trace,
     })

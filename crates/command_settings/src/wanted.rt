@@ -10,7 +10,7 @@ use thiserror::Error;
 
 /// What to do where random runs are to be made, and the memory model searched.
 const TWOFOLD: &str =
-    "--sample makes random runs of the machine, and goes with --seed; --architecture searches the memory model, and goes with --window and --show: leave out one of them";
+    "--sample makes random runs of the machine, --architecture searches the memory model: leave out one of them";
 
 /// What to do where a search is to fail on what it doesn't look for.
 const BLIND: &str =
@@ -183,26 +183,11 @@ pub struct Show<'a> {
     pub words: Vec<&'a str>,
 }
 
-/// Find out which of the orderings of the program of the file `image` it needs. The image has bare words where `raw` is
-/// set, and else is an ELF file.
-#[derive(Clone, Copy)]
-pub struct Fences<'a> {
-    pub raw: bool,
-    pub machine: MachineOptions,
-    /// How many states each search may meet before it ends: 1 to 1000000000.
-    pub states: u32,
-    /// How many operations of a hart may wait at a time: 1 to 64.
-    pub window: u32,
-    pub image: &'a str,
-}
-
 /// Judge the order of the trace in the file `trace`, or its messages.
 #[derive(Clone, Copy)]
 pub struct Check<'a> {
     /// Judge the messages in place of the order.
     pub messages: bool,
-    /// Each question among the messages has its answer by the end.
-    pub ended: bool,
     /// Under which the order is judged.
     pub model: MemoryModel,
     pub trace: &'a str,
@@ -217,7 +202,6 @@ pub enum Settings<'a> {
     Chart(Chart<'a>),
     Explore(Explore<'a>),
     Show(Show<'a>),
-    Fences(Fences<'a>),
     Check(Check<'a>),
 }
 
@@ -233,7 +217,6 @@ impl Settings<'_> {
             | Settings::Run(_)
             | Settings::Explain(_)
             | Settings::Chart(_)
-            | Settings::Fences(_)
             | Settings::Check(_) => None,
         }
     }

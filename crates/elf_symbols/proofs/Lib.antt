@@ -1,3 +1,2 @@
 pub mod Sorting
 pub mod Walks
-pub mod Shortened

@@ -16,7 +16,8 @@ mod Numbered
 mod Keeping
 mod Followings
 mod Opened
-mod EndsShown
+mod OnwardKeeping
+mod OnwardFollowing
 mod SettledNodes
 mod AloneMoves
 mod Addresses

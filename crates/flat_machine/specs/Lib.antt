@@ -15,7 +15,8 @@ pub mod OnePatching
 pub mod SameNodes
 pub mod OneKey
 pub mod Onward
-pub mod SameOutcomes
+pub mod OnwardKey
+pub mod SameEndings
 pub mod Alone
 pub mod Happenings
 pub mod Remembered

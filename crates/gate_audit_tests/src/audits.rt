@@ -19,12 +19,7 @@ fn image_of(alloc: Global, words: &[u32]) -> Result<Image, Fail> {
     Ok(raw(alloc, &bytes, size)?)
 }
 
-fn audit_in(
-    alloc: Global,
-    image: &Image,
-    config: Config,
-    limit: u32,
-) -> Result<Audit, AllocError>
+fn audit_in(alloc: Global, image: &Image, config: Config, limit: u32) -> Result<Audit, AllocError>
     requires { 0 < limit }
 {
     let question = Question {
@@ -54,7 +49,11 @@ fn audit_of(
 /// Whether these are the words of the last program, in their order.
 fn leaves(audit: &Audit, words: &[u32]) -> bool {
     audit.last.len() == words.len()
-        && audit.last.iter().zip(words).all(|(patch, word)| patch.word == *word)
+        && audit
+            .last
+            .iter()
+            .zip(words)
+            .all(|(patch, word)| patch.word == *word)
 }
 
 /// Ends the test unless so many programs are searched behind the first, and these words are left.
@@ -85,9 +84,26 @@ fn a_fence_before_an_exit(rt: HostRuntime) -> Result<(), Fail> {
 
 // `examples/message_passing_fenced.elf`: hart 1 puts out 42, and without either fence it may put out 0.
 static MESSAGE: [u32; 20] = [
-    0x8000_02b7, 0x1002_8293, 0x8000_0337, 0x1403_0313, 0x0005_1e63, 0x02a0_0393, 0x0072_a023,
-    0x0110_000f, 0x0010_0e13, 0x01c3_2023, 0x01c0_006f, 0x0003_2e03, 0xfe0e_0ee3, 0x0220_000f,
-    0x0002_a503, 0x0010_0893, 0x0000_0073, 0x0000_0513, 0x0000_0893, 0x0000_0073,
+    0x8000_02b7,
+    0x1002_8293,
+    0x8000_0337,
+    0x1403_0313,
+    0x0005_1e63,
+    0x02a0_0393,
+    0x0072_a023,
+    0x0110_000f,
+    0x0010_0e13,
+    0x01c3_2023,
+    0x01c0_006f,
+    0x0003_2e03,
+    0xfe0e_0ee3,
+    0x0220_000f,
+    0x0002_a503,
+    0x0010_0893,
+    0x0000_0073,
+    0x0000_0513,
+    0x0000_0893,
+    0x0000_0073,
 ];
 
 #[test]
@@ -105,9 +121,23 @@ fn a_message_under_ztso(rt: HostRuntime) -> Result<(), Fail> {
 // `examples/store_buffering_fenced.elf`: stores have to come before loads. Searched are that without its FENCE, and the
 // FENCEs r, r; r, w; w, r, which is enough; w, w; r, rw; rw, w and TSO. The others order stores before loads too.
 static BUFFERING: [u32; 17] = [
-    0x8000_02b7, 0x1002_8293, 0x8000_0337, 0x1403_0313, 0x0005_0863, 0x0002_8393, 0x0003_0293,
-    0x0003_8313, 0x0010_0e13, 0x01c2_a023, 0x0330_000f, 0x0003_2503, 0x0010_0893, 0x0000_0073,
-    0x0000_0513, 0x0000_0893, 0x0000_0073,
+    0x8000_02b7,
+    0x1002_8293,
+    0x8000_0337,
+    0x1403_0313,
+    0x0005_0863,
+    0x0002_8393,
+    0x0003_0293,
+    0x0003_8313,
+    0x0010_0e13,
+    0x01c2_a023,
+    0x0330_000f,
+    0x0003_2503,
+    0x0010_0893,
+    0x0000_0073,
+    0x0000_0513,
+    0x0000_0893,
+    0x0000_0073,
 ];
 
 #[test]
@@ -118,9 +148,22 @@ fn stores_before_loads(rt: HostRuntime) -> Result<(), Fail> {
 // `examples/spin_lock.elf`: without aq the counter may be read before the lock is taken, without rl written behind its
 // release, and both harts put out 1.
 static LOCK: [u32; 16] = [
-    0x8000_02b7, 0x1002_8293, 0x8000_0337, 0x1403_0313, 0x0010_0393, 0x0c72_ae2f, 0xfe0e_1ee3,
-    0x0003_2503, 0x0015_0513, 0x00a3_2023, 0x0a02_a02f, 0x0010_0893, 0x0000_0073, 0x0000_0513,
-    0x0000_0893, 0x0000_0073,
+    0x8000_02b7,
+    0x1002_8293,
+    0x8000_0337,
+    0x1403_0313,
+    0x0010_0393,
+    0x0c72_ae2f,
+    0xfe0e_1ee3,
+    0x0003_2503,
+    0x0015_0513,
+    0x00a3_2023,
+    0x0a02_a02f,
+    0x0010_0893,
+    0x0000_0073,
+    0x0000_0513,
+    0x0000_0893,
+    0x0000_0073,
 ];
 
 #[test]

@@ -7,8 +7,6 @@ mod answers;
 #[cfg(test)]
 mod batches;
 #[cfg(test)]
-mod exchanging;
-#[cfg(test)]
 mod fabric;
 #[cfg(test)]
 mod images;

@@ -47,12 +47,11 @@ use std::rt::Files;
 use std::sync::Wait;
 use std::thread::Threads;
 
-static TRANSCRIPTS: [&str; 9] = [
+static TRANSCRIPTS: [&str; 8] = [
     "replaying",
     "drawing",
     "explaining",
     "exploring",
-    "fencing",
     "judging",
     "messages",
     "running",

@@ -1,11 +1,10 @@
 //! Random runs, as they are told, judged and kept.
 
-ghost use Rattle.std.specs.Prelude.{◌≡◌, ◌≤◌, false, length, true};
+ghost use Rattle.std.specs.Prelude.{◌≤◌, false, length, true};
 ghost use Rattle.exploration_text.specs.Sampling.{sampled_text};
 ghost use Rattle.exploration_text.specs.Text.{harts_text};
 ghost use Rattle.explore_command.specs.Keeping.{AreKeptFrom, IsOutcomeScript};
 ghost use Rattle.explorer.specs.Ends.{outcome_of};
-ghost use Rattle.flat_model.specs.Shown.{told};
 
 use crate::findings::Findings;
 use crate::keeping::{Folder, Keepable};
@@ -30,9 +29,9 @@ impl Findings for Runs {
 
     ghost outcomes = { λ r. r.sampled.ends.items };
 
-    ghost line = { λ r f. harts_text 0 (outcome_of f).results };
+    ghost line = { λ r f. harts_text 0 (outcome_of f) };
 
-    ghost harts = { λ f. (outcome_of f).results };
+    ghost harts = { outcome_of };
 
     ghost is_stuck = { λ r. false };
 
@@ -52,9 +51,7 @@ impl Findings for Runs {
         harts_text(alloc, &outcome.harts)
     }
 
-    fn harts(outcome: &Found) -> &[HartResult]
-        ensures { told result.now ≡ (outcome_of outcome.now).results }
-    {
+    fn harts(outcome: &Found) -> &[HartResult] {
         &outcome.harts
     }
 

@@ -1,6 +1,0 @@
-//! `rvtl fences`, over files and streams that the caller hands in.
-#![tactic(auto)]
-
-mod fencing;
-
-pub use fencing::fences_files;
