@@ -38,7 +38,7 @@ FLAT = [
     ("state_search", "Ends", "AreStuck"),
     ("explorer", "Outcomes", "HasEachEnd"),
     ("explorer", "Outcomes", "CanAlwaysEnd"),
-    ("explorer", "Outcomes", "IsFlatEnd"),
+    ("flat_exploration", "Outcomes", "IsFlatOutcome"),
     ("explorer", "Ends", "IsRealIn"),
     ("explorer", "Stuck", "IsStuckIn"),
     ("explorer", "Visited", "AreVisited"),
@@ -51,10 +51,6 @@ FLAT = [
     ("window_search", "Openings", "NeverOpens"),
     ("architecture_outcomes", "Outcomes", "IsWitnessed"),
     ("architecture_outcomes", "Outcomes", "TellsEachEnd"),
-    ("explorer", "WordEnds", "HasEachEnding"),
-    ("explorer", "WordEnds", "IsRealIn"),
-    ("explorer", "WordStuck", "IsStuckIn"),
-    ("explorer", "WordVisited", "AreVisited"),
 ]
 PROGRAM = [
     ("command_line", "Running", "IsCarriedOut"),

@@ -13,8 +13,9 @@ use Rattle.std.proofs.lemmas.List.Sums.{sum_by-append, sum_by-cons}
 use Rattle.architecture_outcomes.specs.declared.outcome.Outcome.{Outcome}
 use Rattle.architecture_outcomes.specs.Outcomes.{TellOnce, end_of, tells}
 use Rattle.explorer.proofs.Once.{once_of_strict, strict_of_once, times_moved}
-use Rattle.flat_exploration.specs.Drained.{Ending}
-use Rattle.explorer.specs.WordOrders.{ending_cmp, ending_total, same_ending}
+use Rattle.flat_exploration.specs.Outcomes.{Outcome as End}
+use Rattle.explorer.specs.Orders.{outcome_total, same_outcome}
+use Rattle.explorer.specs.Ranks.{outcome_cmp}
 
 counted : {X : Type 0} (p : X → Bool) (x : X) (xs : List X) → count_by p (x ∷ xs) ≡ cond (p x) 1 0 + count_by p xs
 counted p x xs = sum_by-cons (λ y. cond (p y) 1 0) x xs
@@ -33,46 +34,46 @@ none_counted p (x ∷ xs) none =
     omega (arith, more, here, rest)
 
 -- two lists that rise strictly and have nothing in common
-pub once_apart : (found outcomes : List Outcome) → IsStrictlySortedBy (on end_of ending_cmp) found → IsStrictlySortedBy (on end_of ending_cmp) outcomes
+pub once_apart : (found outcomes : List Outcome) → IsStrictlySortedBy (on end_of outcome_cmp) found → IsStrictlySortedBy (on end_of outcome_cmp) outcomes
     → All (λ o. list_any (tells (end_of o)) found ≡ false) outcomes → TellOnce found outcomes
 once_apart found outcomes up also apart outcome = go (list_any (tells outcome) outcomes) refl
   where
     few : count_by (tells outcome) found ≤ 1
-    few = once_of_strict ending_total end_of found up outcome
+    few = once_of_strict outcome_total end_of found up outcome
 
     others : count_by (tells outcome) outcomes ≤ 1
-    others = once_of_strict ending_total end_of outcomes also outcome
+    others = once_of_strict outcome_total end_of outcomes also outcome
 
     go : (b : Bool) → list_any (tells outcome) outcomes ≡ b → count_by (tells outcome) found + count_by (tells outcome) outcomes ≤ 1
     go false e = let none = none_counted (tells outcome) outcomes e in omega (arith, few, none)
     go true e =
         let told = Any-from_list_any (tells outcome) outcomes e in
-        let one : end_of told.1 ≡ outcome = same_ending (end_of told.1) outcome ((Equal-is (ending_cmp (end_of told.1) outcome)).0 told.4) in
+        let one : end_of told.1 ≡ outcome = same_outcome (end_of told.1) outcome ((Equal-is (outcome_cmp (end_of told.1) outcome)).0 told.4) in
         let new : list_any (tells (end_of told.1)) found ≡ false = subst (λ (o : Outcome). list_any (tells (end_of o)) found ≡ false) told.3 (apart told.0 told.1 told.2) in
         let none : count_by (tells outcome) found ≡ 0 = none_counted (tells outcome) found (subst (λ r. list_any (tells r) found ≡ false) one new) in
         omega (arith, none, others)
 
 -- ---- what is left of a list that is sorted, each once
 
-module _ (before sorted left : List Outcome) (kept : IsFiltered (DiffersFromLast (eq_by_cmp (on end_of ending_cmp))) [] sorted left) where
-  left_is : left ≡ dedup (eq_by_cmp (on end_of ending_cmp)) sorted
-  left_is = dedup_is (eq_by_cmp (on end_of ending_cmp)) sorted left kept
+module _ (before sorted left : List Outcome) (kept : IsFiltered (DiffersFromLast (eq_by_cmp (on end_of outcome_cmp))) [] sorted left) where
+  left_is : left ≡ dedup (eq_by_cmp (on end_of outcome_cmp)) sorted
+  left_is = dedup_is (eq_by_cmp (on end_of outcome_cmp)) sorted left kept
 
   pub left_of : (P : Outcome → Type 0) → IsPermutation before sorted → All P before → All P left
-  left_of P moved all = subst (All P) (sym left_is) (All-dedup (eq_by_cmp (on end_of ending_cmp)) P sorted (All-permutation P before sorted moved all))
+  left_of P moved all = subst (All P) (sym left_is) (All-dedup (eq_by_cmp (on end_of outcome_cmp)) P sorted (All-permutation P before sorted moved all))
 
-  pub left_strict : IsSorted (on end_of ending_cmp) sorted → IsStrictlySortedBy (on end_of ending_cmp) left
-  left_strict up = subst (IsStrictlySortedBy (on end_of ending_cmp)) (sym left_is) (IsStrictlySortedBy-dedup (on_total end_of ending_total) (λ x y. refl) sorted up)
+  pub left_strict : IsSorted (on end_of outcome_cmp) sorted → IsStrictlySortedBy (on end_of outcome_cmp) left
+  left_strict up = subst (IsStrictlySortedBy (on end_of outcome_cmp)) (sym left_is) (IsStrictlySortedBy-dedup (on_total end_of outcome_total) (λ x y. refl) sorted up)
 
 -- ---- all of them, sorted
 
-pub rises : (beyond joined sorted found : List Outcome) → joined ≡ beyond ++ found → IsPermutation joined sorted → IsSortedByKey end_of ending_cmp sorted → TellOnce found beyond
-    → IsStrictlySortedBy (on end_of ending_cmp) sorted
-rises beyond joined sorted found joined_is moved up once = strict_of_once ending_total end_of sorted up few
+pub rises : (beyond joined sorted found : List Outcome) → joined ≡ beyond ++ found → IsPermutation joined sorted → IsSortedByKey end_of outcome_cmp sorted → TellOnce found beyond
+    → IsStrictlySortedBy (on end_of outcome_cmp) sorted
+rises beyond joined sorted found joined_is moved up once = strict_of_once outcome_total end_of sorted up few
   where
-    few : (outcome : Ending) → count_by (tells outcome) sorted ≤ 1
+    few : (outcome : End) → count_by (tells outcome) sorted ≤ 1
     few outcome =
-        let all : count_by (tells outcome) sorted ≡ count_by (tells outcome) joined = times_moved ending_total end_of joined sorted moved outcome in
+        let all : count_by (tells outcome) sorted ≡ count_by (tells outcome) joined = times_moved outcome_total end_of joined sorted moved outcome in
         let parts : count_by (tells outcome) joined ≡ count_by (tells outcome) beyond + count_by (tells outcome) found =
         ap (count_by (tells outcome)) joined_is ∙ sum_by-append (λ x. cond (tells outcome x) 1 0) beyond found in
         let one = once outcome in

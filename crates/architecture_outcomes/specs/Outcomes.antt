@@ -1,5 +1,5 @@
 -- What shows that a memory model allows an outcome, and when none of the machine's is missing.
-use Rattle.std.specs.Prelude.{◌≡◌, ◌+◌, ◌≤◌, ℕ, true, Bool, [], ◌∷◌, List, None, Option, Some, Contains, if◌then◌else◌, map}
+use Rattle.std.specs.Prelude.{◌≡◌, ◌+◌, ◌≤◌, ℕ, true, Bool, List, None, Option, Some, Contains, if◌then◌else◌, map}
 use Rattle.std.specs.List.{count_by}
 use Rattle.std.specs.Ordering.{is_eq}
 use Rattle.architecture_outcomes.specs.declared.outcome.Outcome.{Outcome}
@@ -8,10 +8,9 @@ use Rattle.architecture_outcomes.specs.declared.outcome.Way.TheVariants.{Machine
 use Rattle.elf_loader.specs.Image.{Initial}
 use Rattle.explorer.specs.declared.found.Found.{Found}
 use Rattle.explorer.specs.declared.found.Realisation.{Realisation}
-use Rattle.explorer.specs.Ends.{IsRealIn as IsRealResult}
-use Rattle.flat_exploration.specs.Drained.{Ending, HasDrained, machine_ending, performed_word}
-use Rattle.flat_exploration.specs.Laws.{none_runs}
-use Rattle.machine_model.specs.Views.{State}
+use Rattle.explorer.specs.Ends.{IsRealIn, outcome_with}
+use Rattle.explorer.specs.Ranks.{outcome_cmp}
+use Rattle.flat_exploration.specs.Outcomes.{HasEnded, Outcome as End, machine_outcome, performed_word}
 use Rattle.machine_types.specs.declared.config.Config.{Config}
 use Rattle.machine_types.specs.declared.event.Event.{Event}
 use Rattle.schedules.specs.Schedules.{led}
@@ -19,38 +18,24 @@ use Rattle.std.specs.Global.{Vec}
 use Rattle.trace_recorder.specs.declared.trace.Trace.{Trace}
 use Rattle.witnesses.specs.declared.witness.Witness.{Witness}
 use Rattle.witnesses.specs.Witnesses.{IsWitness}
-use Rattle.explorer.specs.declared.words.found.WordFound.{WordFound}
-use Rattle.explorer.specs.WordEnds.{IsRealIn, ending_with}
-use Rattle.explorer.specs.WordOrders.{ending_cmp}
 
-abbrev pub end_of : Outcome → Ending
-end_of o = ending_with o.harts.items o.words.items
+abbrev pub end_of : Outcome → End
+end_of o = outcome_with o.harts.items o.words.items
 
-abbrev pub ends_of : List Outcome → List Ending
+abbrev pub ends_of : List Outcome → List End
 ends_of = map end_of
 
 -- ---- the machine's ends
 
--- no hart runs, and where words of memory are shown no store waits
-abbrev pub HasEnded : (addresses : List ℕ) → State → Type 0
-HasEnded [] s = none_runs s.views.nodes ≡ true
-HasEnded (address ∷ rest) s = HasDrained s
-
--- whatever events come in whatever order, where they lead to an end, its results and words are among these
-abbrev pub HasEachMachineEnd : Initial → Config → (addresses : List ℕ) → List Ending → Type 0
-HasEachMachineEnd image config addresses endings =
-    (events : List Event) → HasEnded addresses (led image config events) → Contains endings (machine_ending addresses (led image config events))
-
 -- no list of events leads to an end with these results and words
-abbrev pub NeverEnds : Initial → Config → (addresses : List ℕ) → Ending → Type 0
-NeverEnds image config addresses ending = (events : List Event) → HasEnded addresses (led image config events) → machine_ending addresses (led image config events) ≡ ending → ⊥
+abbrev pub NeverEnds : Initial → Config → (addresses : List ℕ) → End → Type 0
+NeverEnds image config addresses end = (events : List Event) → HasEnded addresses (led image config events) → machine_outcome addresses (led image config events) ≡ end → ⊥
 
 -- ---- what shows an outcome
 
 -- flat events lead to such an end, and so does the machine's script, where there is one
 abbrev pub IsScripted : Initial → Config → (addresses : List ℕ) → Outcome → Realisation → Type 0
-IsScripted image config [] o script = IsRealResult image config (record { harts = o.harts; script = script }) × (o.words.items ≡ [])
-IsScripted image config (address ∷ rest) o script = IsRealIn image config (address ∷ rest) (record { harts = o.harts; words = o.words; script = script })
+IsScripted image config addresses o script = IsRealIn image config addresses (record { harts = o.harts; words = o.words; script = script })
 
 -- lists that are runs of the image from reset to their ends have a legal order, and the results are read off them; the words are what loads read behind that order, which has all operations
 pub record IsTraced (image : Initial) (config : Config) (addresses : List ℕ) (o : Outcome) (trace : Trace) : Type 0 where
@@ -80,14 +65,8 @@ IsMachine (Model trace) = ⊥
 
 -- ---- where outcomes come from
 
-abbrev pub of_found : WordFound → Outcome
+abbrev pub of_found : Found → Outcome
 of_found f = record { harts = f.harts; words = f.words; way = Machine f.script }
-
--- it is this end of the machine, and shows no words
-pub record IsOf (found : Found) (o : Outcome) : Type 0 where
-  pub harts : o.harts ≡ found.harts
-  pub words : o.words.items ≡ []
-  pub way : o.way ≡ Machine found.script
 
 abbrev pub of_witness : Bool → Vec ℕ → Witness → Outcome
 of_witness is_complete words w = record { harts = w.harts; words = words; way = if is_complete then ModelAlone w.trace else Model w.trace }
@@ -95,23 +74,23 @@ of_witness is_complete words w = record { harts = w.harts; words = words; way = 
 -- ---- how often outcomes are told
 
 -- it is this outcome
-abbrev pub tells : Ending → Outcome → Bool
-tells outcome o = is_eq (ending_cmp (end_of o) outcome)
+abbrev pub tells : End → Outcome → Bool
+tells outcome o = is_eq (outcome_cmp (end_of o) outcome)
 
 -- no outcome is told twice by what was found of the machine and these
 abbrev pub TellOnce : (found outcomes : List Outcome) → Type 0
-TellOnce found outcomes = (outcome : Ending) → count_by (tells outcome) found + count_by (tells outcome) outcomes ≤ 1
+TellOnce found outcomes = (outcome : End) → count_by (tells outcome) found + count_by (tells outcome) outcomes ≤ 1
 
 -- the outcome, where it is told as the machine's
-abbrev pub end_by : Ending → Way → Option Ending
+abbrev pub end_by : End → Way → Option End
 end_by outcome (Machine script) = Some outcome
 end_by outcome (ModelAlone trace) = None
 end_by outcome (Model trace) = None
 
-abbrev pub machine_end : Outcome → Option Ending
+abbrev pub machine_end : Outcome → Option End
 machine_end o = end_by (end_of o) o.way
 
 -- whatever events come in whatever order, where they lead to an end, its results and words are told as the machine's
 abbrev pub TellsEachEnd : Initial → Config → (addresses : List ℕ) → List Outcome → Type 0
 TellsEachEnd image config addresses outcomes =
-    (events : List Event) → HasEnded addresses (led image config events) → Contains (map machine_end outcomes) (Some (machine_ending addresses (led image config events)))
+    (events : List Event) → HasEnded addresses (led image config events) → Contains (map machine_end outcomes) (Some (machine_outcome addresses (led image config events)))

@@ -3,11 +3,12 @@ ghost use Rattle.std.specs.Prelude.{◌≡◌, ◌≢◌, ◌≤◌, All, IfOk, 
 ghost use Rattle.std.specs.List.{list_any};
 ghost use Rattle.std.specs.List.Sorted.{IsStrictlySortedBy};
 ghost use Rattle.std.specs.Ordering.{on};
-ghost use Rattle.architecture_outcomes.specs.Outcomes.{HasEachMachineEnd, IsDecided, IsWitnessed, TellOnce, end_of, ends_of, tells};
+ghost use Rattle.architecture_outcomes.specs.Outcomes.{IsDecided, IsWitnessed, TellOnce, end_of, ends_of, tells};
 ghost use Rattle.flat_machine.specs.Onward.{are_aligned};
 ghost use Rattle.window_search.specs.Openings.{NeverOpens};
 ghost use Rattle.witnesses.specs.Witnesses.{IsWitness};
-ghost use Rattle.explorer.specs.WordOrders.{ending_cmp};
+ghost use Rattle.explorer.specs.Outcomes.{HasEachEnd};
+ghost use Rattle.explorer.specs.Ranks.{outcome_cmp};
 
 use crate::outcome::Outcome;
 use elf_loader::Image;
@@ -45,7 +46,7 @@ pub(crate) fn search_model<W: Watch>(
 
 /// Whether the machine comes to this outcome.
 fn is_found(found: &[Outcome], outcome: &Outcome) -> bool
-    requires once { IsStrictlySortedBy (on end_of ending_cmp) found.now }
+    requires once { IsStrictlySortedBy (on end_of outcome_cmp) found.now }
     ensures { result ≡ list_any (tells (end_of outcome.now)) found.now }
 {
     found.binary_search(outcome).is_ok()
@@ -64,8 +65,8 @@ pub(crate) fn beyond(
 ) -> Result<Vec<Outcome>, AllocError>
     requires aligned { IsTrue (are_aligned addresses.now) }
     requires witnessed { All (IsWitness image.now config) witnesses.items }
-    requires complete { IsTrue is_complete → HasEachMachineEnd image.now config addresses.now (ends_of found.now) }
-    requires once { IsStrictlySortedBy (on end_of ending_cmp) found.now }
+    requires complete { IsTrue is_complete → HasEachEnd image.now config addresses.now (ends_of found.now) }
+    requires once { IsStrictlySortedBy (on end_of outcome_cmp) found.now }
     ensures shown { IfOk result (λ outcomes. All (IsWitnessed image.now config addresses.now) outcomes.items) }
     ensures once { IfOk result (λ outcomes. TellOnce found.now outcomes.items) }
     ensures alone { IfOk result (λ outcomes. IsTrue is_complete → All (λ o. IsDecided o.way) outcomes.items) }

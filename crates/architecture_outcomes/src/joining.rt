@@ -6,7 +6,7 @@ ghost use Rattle.architecture_outcomes.specs.Outcomes.{IsDecided, IsWitnessed, T
 ghost use Rattle.architecture_outcomes.specs.Visited.{AreMachineStates, TellsEnd};
 ghost use Rattle.flat_model.specs.Flat.{Flat};
 ghost use Rattle.window_search.specs.Openings.{NeverOpens};
-ghost use Rattle.explorer.specs.WordOrders.{ending_cmp};
+ghost use Rattle.explorer.specs.Ranks.{outcome_cmp};
 ghost use Rattle.explorer.specs.Words.{CanShowEach};
 
 use crate::architecture::Architecture;
@@ -83,7 +83,7 @@ pub fn explore_architecture<W: Watch>(
     ensures bounded { IfOk result (λ a. a.reach ≢ Reach.LimitMet → a.reach ≢ Reach.OutOfMemory → a.states ≤ exploring.limit) }
 
     // No outcome is told twice.
-    ensures order { IfOk result (λ a. IsStrictlySortedBy (on end_of ending_cmp) a.outcomes.items) }
+    ensures order { IfOk result (λ a. IsStrictlySortedBy (on end_of outcome_cmp) a.outcomes.items) }
 
     ensures within { IfOk result (λ a. a.machine_states ≤ exploring.limit) }
     ensures full { IfOk result (λ a. a.machine ≡ Extent.LimitMet → a.machine_states ≡ exploring.limit) }

@@ -1,17 +1,17 @@
 //! What the machine comes to.
-ghost use Rattle.std.specs.Prelude.{◌≡◌, ◌<◌, ◌≤◌, [], All, Contains, IfOk, List, map};
-ghost use Rattle.std.specs.List.{AllZip};
+ghost use Rattle.std.specs.Prelude.{◌≡◌, ◌<◌, ◌≤◌, All, Contains, IfOk, List, map};
 ghost use Rattle.std.specs.List.Sorted.{IsStrictlySortedBy};
 ghost use Rattle.std.specs.Ordering.{on};
-ghost use Rattle.architecture_outcomes.specs.Outcomes.{HasEachMachineEnd, IsMachine, IsOf, IsWitnessed, end_of, ends_of, of_found};
+ghost use Rattle.architecture_outcomes.specs.Outcomes.{IsMachine, IsWitnessed, end_of, ends_of, of_found};
 ghost use Rattle.architecture_outcomes.specs.Visited.{AreMachineStates};
 ghost use Rattle.flat_model.specs.Flat.{Flat};
-ghost use Rattle.explorer.specs.WordOrders.{ending_cmp};
+ghost use Rattle.explorer.specs.Outcomes.{HasEachEnd};
+ghost use Rattle.explorer.specs.Ranks.{outcome_cmp};
 ghost use Rattle.explorer.specs.Words.{CanShowEach};
 
 use crate::outcome::{Outcome, Way};
 use elf_loader::Image;
-use explorer::{Exploration, Exploring, Found, WordExploration, WordFound, explore, explore_words};
+use explorer::{Exploration, Exploring, Found, explore};
 use machine_types::Config;
 use state_search::{Extent, Watch};
 use std::alloc::{AllocError, Global};
@@ -37,64 +37,31 @@ pub(crate) fn search_machine<W: Watch>(
     requires words { CanShowEach image.now addresses.now }
     ensures shown { IfOk result (λ m. All (IsWitnessed image.now config addresses.now) m.outcomes.items) }
     ensures machine { IfOk result (λ m. All (λ o. IsMachine o.way) m.outcomes.items) }
-    ensures complete { IfOk result (λ m. m.extent ≡ Extent.Complete → HasEachMachineEnd image.now config addresses.now (ends_of m.outcomes.items)) }
-    ensures once { IfOk result (λ m. IsStrictlySortedBy (on end_of ending_cmp) m.outcomes.items) }
+    ensures complete { IfOk result (λ m. m.extent ≡ Extent.Complete → HasEachEnd image.now config addresses.now (ends_of m.outcomes.items)) }
+    ensures once { IfOk result (λ m. IsStrictlySortedBy (on end_of outcome_cmp) m.outcomes.items) }
     ensures within { IfOk result (λ m. m.states ≤ exploring.limit) }
     ensures full { IfOk result (λ m. m.extent ≡ Extent.LimitMet → m.states ≡ exploring.limit) }
     ensures visited { IfOk result (λ m. (states : List Flat) × AreMachineStates image.now config addresses.now m.extent m.states (Contains (ends_of m.outcomes.items)) states) }
-{
-    // Without words an end is sooner: stores may wait at it.
-    if addresses.is_empty() {
-        return search_results(alloc, image, config, exploring, watch);
-    }
-    let WordExploration {
-        outcomes,
-        extent,
-        states,
-        ..
-    } = explore_words(alloc, image, config, addresses, exploring, watch)?;
-    Ok(Machine {
-        outcomes: with_words(alloc, outcomes)?,
-        extent,
-        states,
-    })
-}
-
-/// What the machine comes to, where no words are shown.
-fn search_results<W: Watch>(
-    alloc: Global,
-    image: &Image,
-    config: Config,
-    exploring: Exploring,
-    watch: &W,
-) -> Result<Machine, AllocError>
-    requires room { 0 < exploring.limit }
-    ensures shown { IfOk result (λ m. All (IsWitnessed image.now config []) m.outcomes.items) }
-    ensures machine { IfOk result (λ m. All (λ o. IsMachine o.way) m.outcomes.items) }
-    ensures complete { IfOk result (λ m. m.extent ≡ Extent.Complete → HasEachMachineEnd image.now config [] (ends_of m.outcomes.items)) }
-    ensures once { IfOk result (λ m. IsStrictlySortedBy (on end_of ending_cmp) m.outcomes.items) }
-    ensures within { IfOk result (λ m. m.states ≤ exploring.limit) }
-    ensures full { IfOk result (λ m. m.extent ≡ Extent.LimitMet → m.states ≡ exploring.limit) }
-    ensures visited { IfOk result (λ m. (states : List Flat) × AreMachineStates image.now config [] m.extent m.states (Contains (ends_of m.outcomes.items)) states) }
 {
     let Exploration {
         outcomes,
         extent,
         states,
         ..
-    } = explore(alloc, image, config, exploring, watch)?;
+    } = explore(alloc, image, config, addresses, exploring, watch)?;
     Ok(Machine {
-        outcomes: without_words(alloc, outcomes)?,
+        outcomes: of_machine(alloc, outcomes)?,
         extent,
         states,
     })
 }
 
-fn with_words(alloc: Global, found: Vec<WordFound>) -> Result<Vec<Outcome>, AllocError>
+/// The ends as outcomes to which the machine comes.
+fn of_machine(alloc: Global, found: Vec<Found>) -> Result<Vec<Outcome>, AllocError>
     ensures { IfOk result (λ outcomes. outcomes.items ≡ map of_found found.items) }
 {
     let mut outcomes = Vec::new(alloc);
-    for WordFound {
+    for Found {
         harts,
         words,
         script,
@@ -102,20 +69,6 @@ fn with_words(alloc: Global, found: Vec<WordFound>) -> Result<Vec<Outcome>, Allo
         outcomes.push(Outcome {
             harts,
             words,
-            way: Way::Machine(script),
-        })?;
-    }
-    Ok(outcomes)
-}
-
-fn without_words(alloc: Global, found: Vec<Found>) -> Result<Vec<Outcome>, AllocError>
-    ensures { IfOk result (λ outcomes. AllZip IsOf found.items outcomes.items) }
-{
-    let mut outcomes = Vec::new(alloc);
-    for Found { harts, script } in found {
-        outcomes.push(Outcome {
-            harts,
-            words: Vec::new(alloc),
             way: Way::Machine(script),
         })?;
     }

@@ -2,15 +2,15 @@
 use Rattle.std.specs.Prelude.{ℕ, zero, suc, ◌+◌, List, [], ◌∷◌, ◌++◌, codes, decimal}
 use Rattle.exploration_text.specs.Text.{harts_text}
 use Rattle.explorer.specs.Ends.{outcomes_of}
-use Rattle.flat_model.specs.Shown.{HartEnd}
+use Rattle.flat_exploration.specs.Outcomes.{Outcome}
 use Rattle.explorer.specs.declared.samples.sampled.Sampled.{Sampled}
 
 -- an end's number, how many runs came to it, and how each hart ended
-abbrev pub counted_line : (number times : ℕ) → List HartEnd → List ℕ
-counted_line number times outcome = decimal number ++ (codes "  " ++ (decimal times ++ (harts_text 0 outcome ++ codes "\n")))
+abbrev pub counted_line : (number times : ℕ) → Outcome → List ℕ
+counted_line number times outcome = decimal number ++ (codes "  " ++ (decimal times ++ (harts_text 0 outcome.results ++ codes "\n")))
 
 -- counted from a number on
-abbrev pub counted_lines : ℕ → List (List HartEnd) → List ℕ → List ℕ
+abbrev pub counted_lines : ℕ → List Outcome → List ℕ → List ℕ
 counted_lines number [] _ = []
 counted_lines number (o ∷ os) [] = []
 counted_lines number (o ∷ os) (n ∷ ns) = counted_line number n o ++ counted_lines (number + 1) os ns

@@ -1,8 +1,6 @@
--- The lines in which an exploration is told.
-use Rattle.std.specs.Prelude.{ℕ, zero, suc, ◌+◌, List, [], ◌∷◌, ◌++◌, Option, Some, None, codes, decimal, length}
-use Rattle.explorer.specs.declared.exploration.Exploration.{Exploration}
+-- The parts of lines in which an exploration is told.
+use Rattle.std.specs.Prelude.{ℕ, zero, suc, ◌+◌, List, [], ◌∷◌, ◌++◌, Option, Some, None, codes, decimal}
 use Rattle.explorer.specs.declared.exploration.Stuck.{Stuck}
-use Rattle.explorer.specs.Ends.{outcomes_of}
 use Rattle.flat_model.specs.Shown.{HartEnd}
 use Rattle.hart_ends.specs.Ends.{hart_text}
 use Rattle.state_search.specs.declared.findings.Extent.{Extent}
@@ -24,14 +22,6 @@ harts_text h (r ∷ rs) = hart_field h r ++ harts_text (h + 1) rs
 
 -- ---- lines
 
-abbrev pub outcome_line : ℕ → List HartEnd → List ℕ
-outcome_line number outcome = decimal number ++ (harts_text 0 outcome ++ codes "\n")
-
--- counted from a number on
-abbrev pub outcome_lines : ℕ → List (List HartEnd) → List ℕ
-outcome_lines number [] = []
-outcome_lines number (o ∷ os) = outcome_line number o ++ outcome_lines (number + 1) os
-
 abbrev pub stuck_line : Option Stuck → List ℕ
 stuck_line None = []
 stuck_line (Some stuck) = codes "stuck: " ++ (decimal stuck.states ++ codes " states from which no schedule ends\n")
@@ -40,6 +30,3 @@ abbrev pub last_line : Extent → (outcomes states : ℕ) → List ℕ
 last_line Complete outcomes states = codes "complete: " ++ (decimal outcomes ++ (codes " outcomes, " ++ (decimal states ++ codes " states\n")))
 last_line LimitMet outcomes states = codes "incomplete: " ++ (decimal states ++ codes " states met\n")
 last_line OutOfMemory outcomes states = codes "incomplete: out of memory\n"
-
-abbrev pub exploration_text : Exploration → List ℕ
-exploration_text e = outcome_lines 1 (outcomes_of e.outcomes.items) ++ (stuck_line e.stuck ++ last_line e.extent (length e.outcomes.items) e.states)

@@ -1,12 +1,12 @@
--- The lines in which an exploration is told that shows words of memory.
+-- The lines in which an exploration is told.
 use Rattle.std.specs.Prelude.{ℕ, ◌+◌, List, [], ◌∷◌, ◌++◌, codes, decimal, length}
 use Rattle.exploration_text.specs.declared.wording.WordName.{WordName}
 use Rattle.exploration_text.specs.declared.wording.WordName.TheVariants.{Address, Symbol}
 use Rattle.exploration_text.specs.Text.{harts_text, last_line, stuck_line}
-use Rattle.flat_exploration.specs.Drained.{Ending}
+use Rattle.flat_exploration.specs.Outcomes.{Outcome}
 use Rattle.text_fields.specs.Fields.{word}
-use Rattle.explorer.specs.declared.words.exploration.WordExploration.{WordExploration}
-use Rattle.explorer.specs.WordEnds.{endings_of}
+use Rattle.explorer.specs.declared.exploration.Exploration.{Exploration}
+use Rattle.explorer.specs.Ends.{outcomes_of}
 
 -- a symbol as it is, an address as 0x and eight hexadecimal digits
 abbrev pub name_text : WordName → List ℕ
@@ -23,16 +23,17 @@ word_fields (name ∷ names) [] = []
 word_fields (name ∷ names) (value ∷ values) = word_field name value ++ word_fields names values
 
 -- the harts, and behind them the words
-abbrev pub end_text : List WordName → Ending → List ℕ
-end_text names ending = harts_text 0 ending.results ++ word_fields names ending.words
+abbrev pub end_text : List WordName → Outcome → List ℕ
+end_text names outcome = harts_text 0 outcome.results ++ word_fields names outcome.words
 
-abbrev pub end_line : List WordName → ℕ → Ending → List ℕ
-end_line names number ending = decimal number ++ (end_text names ending ++ codes "\n")
+abbrev pub end_line : List WordName → ℕ → Outcome → List ℕ
+end_line names number outcome = decimal number ++ (end_text names outcome ++ codes "\n")
 
 -- counted from a number on
-abbrev pub end_lines : List WordName → ℕ → List Ending → List ℕ
+abbrev pub end_lines : List WordName → ℕ → List Outcome → List ℕ
 end_lines names number [] = []
-end_lines names number (e ∷ es) = end_line names number e ++ end_lines names (number + 1) es
+end_lines names number (o ∷ os) = end_line names number o ++ end_lines names (number + 1) os
 
-abbrev pub words_text : List WordName → WordExploration → List ℕ
-words_text names e = end_lines names 1 (endings_of e.outcomes.items) ++ (stuck_line e.stuck ++ last_line e.extent (length e.outcomes.items) e.states)
+-- where words of memory are called so
+abbrev pub exploration_text : List WordName → Exploration → List ℕ
+exploration_text names e = end_lines names 1 (outcomes_of e.outcomes.items) ++ (stuck_line e.stuck ++ last_line e.extent (length e.outcomes.items) e.states)

@@ -6,5 +6,5 @@ mod spelling;
 mod wording;
 
 pub use sampling::sampled_text;
-pub use spelling::{harts_text, text_of};
-pub use wording::{WordName, end_text, words_text_of};
+pub use spelling::harts_text;
+pub use wording::{WordName, end_text, text_of};

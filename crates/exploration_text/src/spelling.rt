@@ -1,11 +1,10 @@
-//! The lines.
+//! The parts of lines.
 ghost use Rattle.std.specs.Prelude.{◌≡◌, ◌++◌, IfOk, OnOk, decimal};
 ghost use Rattle.exploration_text.specs.Text as text;
-ghost use Rattle.explorer.specs.Ends.{outcome_of, outcomes_of};
 ghost use Rattle.explorer.specs.Ranks.{result_of};
 ghost use Rattle.flat_model.specs.Shown.{told};
 
-use explorer::{Exploration, Found, Stuck};
+use explorer::Stuck;
 use flat_model::HartResult;
 use hart_ends::put_end;
 use itoa::Buffer;
@@ -54,28 +53,6 @@ pub(crate) fn spell_harts(into: &mut Vec<u8>, harts: &[HartResult]) -> Result<()
     Ok(())
 }
 
-fn spell_outcome(into: &mut Vec<u8>, number: usize, found: &Found) -> Result<(), AllocError>
-    ensures { OnOk result (into.new.items ≡ into.old.items ++ text.outcome_line number (outcome_of found.now)) }
-{
-    spell_number(into, number as u64)?;
-    spell_harts(into, &found.harts)?;
-    into.extend_from_slice(b"\n")?;
-    Ok(())
-}
-
-fn spell_outcomes(into: &mut Vec<u8>, outcomes: &[Found]) -> Result<(), AllocError>
-    ensures { OnOk result (into.new.items ≡ into.old.items ++ text.outcome_lines 1 (outcomes_of outcomes.now)) }
-{
-    let mut rest = outcomes;
-    let mut number = 1;
-    while let [first, tail @ ..] = rest {
-        spell_outcome(into, number, first)?;
-        rest = tail;
-        number += 1;
-    }
-    Ok(())
-}
-
 pub(crate) fn spell_stuck(into: &mut Vec<u8>, stuck: &Option<Stuck>) -> Result<(), AllocError>
     ensures { OnOk result (into.new.items ≡ into.old.items ++ text.stuck_line stuck.now) }
 {
@@ -119,22 +96,5 @@ pub fn harts_text(alloc: Global, harts: &[HartResult]) -> Result<Vec<u8>, AllocE
 {
     let mut bytes = Vec::new(alloc);
     spell_harts(&mut bytes, harts)?;
-    Ok(bytes)
-}
-
-/// A line for each outcome, in order and counted from 1; one for the states from which no schedule ends, if there are
-/// any; and one that says whether these are all outcomes.
-pub fn text_of(alloc: Global, exploration: &Exploration) -> Result<Vec<u8>, AllocError>
-    ensures { IfOk result (λ bytes. bytes.items ≡ text.exploration_text exploration.now) }
-{
-    let mut bytes = Vec::new(alloc);
-    spell_outcomes(&mut bytes, &exploration.outcomes)?;
-    spell_stuck(&mut bytes, &exploration.stuck)?;
-    spell_extent(
-        &mut bytes,
-        exploration.extent,
-        exploration.outcomes.len(),
-        exploration.states,
-    )?;
     Ok(bytes)
 }

@@ -1,10 +1,10 @@
-//! The lines where words of memory are shown.
+//! The lines.
 ghost use Rattle.std.specs.Prelude.{◌≡◌, ◌++◌, IfOk, OnOk};
 ghost use Rattle.exploration_text.specs.Words as text;
-ghost use Rattle.explorer.specs.WordEnds.{ending_of, ending_with, endings_of};
+ghost use Rattle.explorer.specs.Ends.{outcome_of, outcome_with, outcomes_of};
 
 use crate::spelling::{spell_extent, spell_harts, spell_number, spell_stuck};
-use explorer::{WordExploration, WordFound};
+use explorer::{Exploration, Found};
 use flat_model::HartResult;
 use std::alloc::{AllocError, Global};
 use text_fields::word_text;
@@ -58,43 +58,43 @@ fn spell_end(
     harts: &[HartResult],
     words: &[u32],
 ) -> Result<(), AllocError>
-    ensures { OnOk result (into.new.items ≡ into.old.items ++ text.end_text names.now (ending_with harts.now words.now)) }
+    ensures { OnOk result (into.new.items ≡ into.old.items ++ text.end_text names.now (outcome_with harts.now words.now)) }
 {
     spell_harts(into, harts)?;
     spell_words(into, names, words)
 }
 
-fn spell_ending(
+fn spell_outcome(
     into: &mut Vec<u8>,
     names: &[WordName<'_>],
     number: usize,
-    found: &WordFound,
+    found: &Found,
 ) -> Result<(), AllocError>
-    ensures { OnOk result (into.new.items ≡ into.old.items ++ text.end_line names.now number (ending_of found.now)) }
+    ensures { OnOk result (into.new.items ≡ into.old.items ++ text.end_line names.now number (outcome_of found.now)) }
 {
     spell_number(into, number as u64)?;
     spell_end(into, names, &found.harts, &found.words)?;
     into.extend_from_slice(b"\n")
 }
 
-fn spell_endings(
+fn spell_outcomes(
     into: &mut Vec<u8>,
     names: &[WordName<'_>],
-    outcomes: &[WordFound],
+    outcomes: &[Found],
 ) -> Result<(), AllocError>
-    ensures { OnOk result (into.new.items ≡ into.old.items ++ text.end_lines names.now 1 (endings_of outcomes.now)) }
+    ensures { OnOk result (into.new.items ≡ into.old.items ++ text.end_lines names.now 1 (outcomes_of outcomes.now)) }
 {
     let mut rest = outcomes;
     let mut number = 1;
     while let [first, tail @ ..] = rest {
-        spell_ending(into, names, number, first)?;
+        spell_outcome(into, names, number, first)?;
         rest = tail;
         number += 1;
     }
     Ok(())
 }
 
-/// How each hart ended and the words by their names, as a line of `words_text_of` has them behind its number: two spaces
+/// How each hart ended and the words by their names, as a line of `text_of` has them behind its number: two spaces
 /// stand before the first hart.
 pub fn end_text(
     alloc: Global,
@@ -102,23 +102,24 @@ pub fn end_text(
     harts: &[HartResult],
     words: &[u32],
 ) -> Result<Vec<u8>, AllocError>
-    ensures { IfOk result (λ bytes. bytes.items ≡ text.end_text names.now (ending_with harts.now words.now)) }
+    ensures { IfOk result (λ bytes. bytes.items ≡ text.end_text names.now (outcome_with harts.now words.now)) }
 {
     let mut bytes = Vec::new(alloc);
     spell_end(&mut bytes, names, harts, words)?;
     Ok(bytes)
 }
 
-/// The lines of `text_of`, where behind the harts of each outcome stand the words by these names.
-pub fn words_text_of(
+/// A line for each outcome, in order and counted from 1, where behind the harts stand the words by these names, perhaps
+/// none; one for the states from which no schedule ends, if there are any; and one that says whether these are all outcomes.
+pub fn text_of(
     alloc: Global,
     names: &[WordName<'_>],
-    exploration: &WordExploration,
+    exploration: &Exploration,
 ) -> Result<Vec<u8>, AllocError>
-    ensures { IfOk result (λ bytes. bytes.items ≡ text.words_text names.now exploration.now) }
+    ensures { IfOk result (λ bytes. bytes.items ≡ text.exploration_text names.now exploration.now) }
 {
     let mut bytes = Vec::new(alloc);
-    spell_endings(&mut bytes, names, &exploration.outcomes)?;
+    spell_outcomes(&mut bytes, names, &exploration.outcomes)?;
     spell_stuck(&mut bytes, &exploration.stuck)?;
     spell_extent(
         &mut bytes,

@@ -10,7 +10,7 @@ use Rattle.command_files.specs.declared.fault.Fault.{Fault}
 use Rattle.command_files.specs.declared.fault.Fault.TheVariants.{OutOfMemory}
 use Rattle.command_settings.specs.declared.wanted.Explore.{Explore}
 use Rattle.elf_loader.specs.Image.{Initial}
-use Rattle.exploration_text.specs.Text.{exploration_text, harts_text}
+use Rattle.exploration_text.specs.Words.{end_text, exploration_text}
 use Rattle.explore_command.specs.Exploring.{IsAllowFile, IsExploreFault, IsExplorationTold, IsFoundIn, ExplorationHas, ExplorationRefusals, LeavesPart, exploration_fails}
 use Rattle.explore_command.specs.Judging.{HaveRefusals, IsJudged, judgement_of_lines}
 use Rattle.explore_command.specs.Keeping.{AreKept, HasName, IsInNamed, IsScriptOf, SparesOthers}
@@ -67,16 +67,16 @@ judged held (Some file) None lines fails judgement read is = absurd read
 judged held (Some file) (Some text) lines fails judgement read is = (text, read, is)
 
 module _ (held : Contents) (wanted : Explore) (config : Config) (image : Initial) (found : Exploration)
-    (inside : IsInside wanted.machine) (config_is : config ≡ config_named wanted.machine inside) (file : HoldsImage held wanted.raw wanted.image.now wanted.machine.memory image) (is : IsFoundIn image config wanted.states found) where
-  is_found : IsFoundIn image (config_named wanted.machine inside) wanted.states found
-  is_found = subst (λ (c : Config). IsFoundIn image c wanted.states found) config_is is
+    (inside : IsInside wanted.machine) (config_is : config ≡ config_named wanted.machine inside) (file : HoldsImage held wanted.raw wanted.image.now wanted.machine.memory image) (is : IsFoundIn image config [] wanted.states found) where
+  is_found : IsFoundIn image (config_named wanted.machine inside) [] wanted.states found
+  is_found = subst (λ (c : Config). IsFoundIn image c [] wanted.states found) config_is is
 
-  pub has : (P : List ℕ → Type 0) → P (exploration_text found) → ExplorationHas held wanted P
+  pub has : (P : List ℕ → Type 0) → P (exploration_text [] found) → ExplorationHas held wanted P
   has P so = record { image = image; exploration = found; image_file = file; inside = inside; found = is_found; of_text = so }
 
-  pub whole : (old new : Option (List ℕ)) (left : Contents) (judgement : Judgement) → Appends old new (exploration_text found) → HasName wanted.scripts → IfSome wanted.scripts (λ folder. AreKept left config wanted.machine.memory folder.now found)
+  pub whole : (old new : Option (List ℕ)) (left : Contents) (judgement : Judgement) → Appends old new (exploration_text [] found) → HasName wanted.scripts → IfSome wanted.scripts (λ folder. AreKept left config wanted.machine.memory folder.now found)
       → SparesOthers (IsInNamed wanted.scripts (IsScriptOf (length found.outcomes.items) found.stuck)) held left
-      → IsJudged held wanted.allow (map (λ f. harts_text 0 (outcome_of f)) found.outcomes.items) (exploration_fails wanted.fail_on found) judgement → (judgement ≡ Allowed → found.extent ≢ extent.OutOfMemory) → IsExplorationTold held left wanted judgement old new
+      → IsJudged held wanted.allow (map (λ f. end_text [] (outcome_of f)) found.outcomes.items) (exploration_fails wanted.fail_on found) judgement → (judgement ≡ Allowed → found.extent ≢ extent.OutOfMemory) → IsExplorationTold held left wanted judgement old new
   whole old new left judgement told named kept spares by memory = record {
     image = image;
     exploration = found;
@@ -91,7 +91,7 @@ module _ (held : Contents) (wanted : Explore) (config : Config) (image : Initial
     whole = memory;
   }
 
-  pub refusals : (old new : Option (List ℕ)) (P : List ℕ → Type 0) → Appends old new (exploration_text found) → HaveRefusals held wanted.allow (map (λ f. harts_text 0 (outcome_of f)) found.outcomes.items) (exploration_fails wanted.fail_on found) P
+  pub refusals : (old new : Option (List ℕ)) (P : List ℕ → Type 0) → Appends old new (exploration_text [] found) → HaveRefusals held wanted.allow (map (λ f. end_text [] (outcome_of f)) found.outcomes.items) (exploration_fails wanted.fail_on found) P
       → ExplorationRefusals held wanted old new P
   refusals old new P printed so = record { image = image; exploration = found; image_file = file; inside = inside; found = is_found; printed = printed; refusals = so }
 
@@ -102,8 +102,8 @@ pub memory_told : (held : Contents) (explore : Explore) (fault : Fault) → faul
 memory_told held explore fault is = subst (IsExploreFault held explore) (sym is) tt
 
 -- what is said of it, fact by fact
-pub found_in : (image : Initial) (config : Config) (limit : ℕ) (r : Result Exploration AllocError) → IfOk r (λ e. All (IsRealIn image config) e.outcomes.items) → IfOk r (λ e. e.extent ≡ extent.Complete → HasEachEnd image config (outcomes_of e.outcomes.items))
-    → IfOk r (λ e. e.extent ≡ extent.Complete → e.stuck ≡ None → CanAlwaysEnd image config) → IfOk r (λ e. e.extent ≡ extent.Complete → e.stuck ≡ None → e.outcomes.items ≢ []) → IfOk r (λ e. IfSome e.stuck (IsStuckIn image config))
-    → IfOk r (λ e. IsStrictlySortedBy (on outcome_of outcome_cmp) e.outcomes.items) → IfOk r (λ e. e.states ≤ limit) → IfOk r (λ e. e.extent ≡ extent.LimitMet → e.states ≡ limit) → IfOk r (λ e. (states : List Flat) × AreVisited image config e states) → IfOk r (IsFoundIn image config limit)
-found_in image config limit (Ok e) real complete none_stuck some stuck order within full visited = record { real = real; complete = complete; none_stuck = none_stuck; some = some; stuck = stuck; order = order; within = within; full = full; visited = visited }
-found_in image config limit (Err error) real complete none_stuck some stuck order within full visited = tt
+pub found_in : (image : Initial) (config : Config) (addresses : List ℕ) (limit : ℕ) (r : Result Exploration AllocError) → IfOk r (λ e. All (IsRealIn image config addresses) e.outcomes.items) → IfOk r (λ e. e.extent ≡ extent.Complete → HasEachEnd image config addresses (outcomes_of e.outcomes.items))
+    → IfOk r (λ e. e.extent ≡ extent.Complete → e.stuck ≡ None → CanAlwaysEnd image config addresses) → IfOk r (λ e. e.extent ≡ extent.Complete → e.stuck ≡ None → e.outcomes.items ≢ []) → IfOk r (λ e. IfSome e.stuck (IsStuckIn image config addresses))
+    → IfOk r (λ e. IsStrictlySortedBy (on outcome_of outcome_cmp) e.outcomes.items) → IfOk r (λ e. e.states ≤ limit) → IfOk r (λ e. e.extent ≡ extent.LimitMet → e.states ≡ limit) → IfOk r (λ e. (states : List Flat) × AreVisited image config addresses e states) → IfOk r (IsFoundIn image config addresses limit)
+found_in image config addresses limit (Ok e) real complete none_stuck some stuck order within full visited = record { real = real; complete = complete; none_stuck = none_stuck; some = some; stuck = stuck; order = order; within = within; full = full; visited = visited }
+found_in image config addresses limit (Err error) real complete none_stuck some stuck order within full visited = tt

@@ -15,15 +15,14 @@ use Rattle.explore_command.specs.Judging.{IsJudged, are_allowed, failure_line, h
 use Rattle.explore_command.specs.Passing.{IsSafe, NoneStops, PassingIsSafe, lists_all}
 use Rattle.explore_command.specs.declared.judging.Judgement.{Judgement}
 use Rattle.explore_command.specs.declared.judging.Judgement.TheVariants.{Allowed, NotAllowed}
-use Rattle.exploration_text.specs.Text.{harts_text}
+use Rattle.exploration_text.specs.Words.{end_text}
 use Rattle.explorer.specs.Ends.{outcome_of, outcomes_of}
-use Rattle.explorer.specs.Outcomes.{CanAlwaysEnd}
 use Rattle.explorer.specs.declared.exploration.Exploration.{Exploration}
 use Rattle.explorer.specs.declared.found.Found.{Found}
 use Rattle.explorer.specs.declared.exploration.Stuck.{Stuck}
-use Rattle.flat_exploration.specs.Exploring.{LeadsTo, explored_opening, have_ended, shown_result}
+use Rattle.flat_exploration.specs.Exploring.{LeadsTo, explored_opening, have_ended}
 use Rattle.flat_exploration.specs.Forgotten.{shortened}
-use Rattle.flat_exploration.specs.Laws.{EndsFrom}
+use Rattle.flat_exploration.specs.Outcomes.{GoesToEnd, Outcome, outcome_in, shown}
 use Rattle.flat_exploration.specs.Views.{does_move}
 use Rattle.flat_exploration.proofs.Alike.{results_alike}
 use Rattle.flat_exploration.proofs.Diamond.{drains_by, may_leave}
@@ -35,6 +34,7 @@ use Rattle.flat_exploration.proofs.Nodes.{accessed_at, left}
 use Rattle.flat_exploration.proofs.Plain.{Goes, goes, happens_plain, kept}
 use Rattle.flat_exploration.proofs.Shortened.{shortened_is_faithful, shortened_results}
 use Rattle.flat_exploration.proofs.Views.{faithful_views}
+use Rattle.flat_exploration.proofs.Wordless.{path_of_view}
 use Rattle.flat_model.specs.Changing.{accessed, accessed_from}
 use Rattle.flat_model.specs.declared.event.FlatEvent.{FlatEvent}
 use Rattle.flat_model.specs.declared.event.FlatEvent.TheVariants as event
@@ -152,11 +152,16 @@ has_still (e ∷ es) f is = has_still es (happens f e) (has_after f e is)
 
 -- ---- each flat end is told
 
-module _ (image : Initial) (config : Config) (limit : ℕ) (found : Exploration) (is : IsFoundIn image config limit found) (complete : found.extent ≡ Complete) where
+-- an end in which one stopped is a failure
+results_any : (fs : List Found) → have_failure (map (λ (f : Found). (outcome_of f).results) fs) ≡ list_any (λ (o : Outcome). has_stopped o.results) (outcomes_of fs)
+results_any [] = refl
+results_any (f ∷ fs) = ap (λ b. has_stopped (outcome_of f).results || b) (results_any fs)
+
+module _ (image : Initial) (config : Config) (limit : ℕ) (found : Exploration) (is : IsFoundIn image config [] limit found) (complete : found.extent ≡ Complete) where
   whole : found.extent ≢ OutOfMemory
   whole out = let bad : Complete ≡ OutOfMemory = sym complete ∙ out in cc
 
-  end_told : (es : List FlatEvent) → have_ended (after_events (opening image config) es).nodes ≡ true → Contains (outcomes_of found.outcomes.items) (flat_results (after_events (opening image config) es))
+  end_told : (es : List FlatEvent) → have_ended (after_events (opening image config) es).nodes ≡ true → Contains (outcomes_of found.outcomes.items) (outcome_in [] (after_events (opening image config) es))
   end_told es over =
       let s = after_events (opening image config) es in
       let m : Meets LeadsTo (λ g. have_ended g.nodes) (λ g e. e) leads image config s = meets LeadsTo (λ g. have_ended g.nodes) (λ g e. e) leads image config es in
@@ -166,12 +171,12 @@ module _ (image : Initial) (config : Config) (limit : ℕ) (found : Exploration)
       let path = (faithful_views shortened shortened_is_faithful image config).each m.events m.end m.path in
       let states = is.visited.0 in
       let are = is.visited.1 in
-      let at : Contains states v = are.all complete m.events v path in
+      let at : Contains states v = are.all complete m.events v (path_of_view m.events _ v path) in
       let place : slice_get states at.0 ≡ Some v = slice_get-get_or states at.0 v at.1 ∙ ap Some at.2 in
-      let shows : shown_result v ≡ Some (flat_results s) = ap (λ b. cond b (Some (flat_results v)) None) (ended_as v s same ∙ over) ∙ ap Some same in
-      are.told whole at.0 v (flat_results s) place shows
+      let shows : shown [] v ≡ Some (outcome_in [] s) = ap (λ b. cond b (Some (outcome_in [] v)) None) (ended_as v s same ∙ over) ∙ ap (λ rs. let o : Outcome = record { results = rs; words = [] } in Some o) same in
+      are.told whole at.0 v (outcome_in [] s) place shows
 
-  none_stops : found.stuck ≡ None → have_failure (outcomes_of found.outcomes.items) ≡ false → IsImage image → NoneStops image config
+  none_stops : found.stuck ≡ None → have_failure (map (λ (f : Found). (outcome_of f).results) found.outcomes.items) ≡ false → IsImage image → NoneStops image config
   none_stops none fails loaded events = false_from_ne_true (has_stopped (results (led image config events))) never
     where
       never : has_stopped (results (led image config events)) ≡ true → ⊥
@@ -179,12 +184,12 @@ module _ (image : Initial) (config : Config) (limit : ℕ) (found : Exploration)
           let flat = results_always image config events loaded in
           let f = after_events (opening image config) flat.events in
           let there : has f.nodes ≡ true = sym (has_as f.nodes) ∙ (ap has_stopped flat.same ∙ one) in
-          let on : EndsFrom f = is.none_stuck complete none flat.events in
+          let on : GoesToEnd [] f = is.none_stuck complete none flat.events in
           let g = after_events (opening image config) (flat.events ++ on.events) in
           let way : g ≡ after_events f on.events = after_both (opening image config) flat.events on.events in
           let over : have_ended g.nodes ≡ true = ap (λ (k : Flat). have_ended k.nodes) way ∙ on.ended in
           let still : has_stopped (flat_results g) ≡ true = has_as g.nodes ∙ (ap (λ (k : Flat). has k.nodes) way ∙ has_still on.events f there) in
-          false≢true (sym fails ∙ any_of has_stopped (outcomes_of found.outcomes.items) (flat_results g) (end_told (flat.events ++ on.events) over) still)
+          false≢true (sym fails ∙ (results_any found.outcomes.items ∙ any_of (λ (o : Outcome). has_stopped o.results) (outcomes_of found.outcomes.items) (outcome_in [] g) (end_told (flat.events ++ on.events) over) still))
 
 -- ---- what passing says
 
@@ -235,15 +240,15 @@ is_complete_of OutOfMemory is = absurd (false≢true (sym is))
 pub passing_is_safe : PassingIsSafe
 passing_is_safe held left wanted old new told loaded all =
     let found = told.exploration in
-    let none : exploration_fails wanted.fail_on found ≡ [] = by_file held wanted.allow (map (λ (f : Found). harts_text 0 (outcome_of f)) found.outcomes.items) (exploration_fails wanted.fail_on found) told.judged in
-    let failed = line_if (lists (codes "failure") wanted.fail_on && have_failure (outcomes_of found.outcomes.items)) failure_line in
+    let none : exploration_fails wanted.fail_on found ≡ [] = by_file held wanted.allow (map (λ (f : Found). end_text [] (outcome_of f)) found.outcomes.items) (exploration_fails wanted.fail_on found) told.judged in
+    let failed = line_if (lists (codes "failure") wanted.fail_on && have_failure (map (λ (f : Found). (outcome_of f).results) found.outcomes.items)) failure_line in
     let stopped = line_if (lists (codes "stuck") wanted.fail_on && is_some found.stuck) stuck_line in
     let ended = line_if (lists (codes "incomplete") wanted.fail_on && not (is_complete found.extent)) incomplete_line in
     let first = both_none (failed ++ stopped) ended none in
     let second = both_none failed stopped first.0 in
     let listed = and_parts (lists (codes "failure") wanted.fail_on) (lists (codes "stuck") wanted.fail_on && lists (codes "incomplete") wanted.fail_on) all in
     let others = and_parts (lists (codes "stuck") wanted.fail_on) (lists (codes "incomplete") wanted.fail_on) listed.1 in
-    let failure = unmet (lists (codes "failure") wanted.fail_on) (have_failure (outcomes_of found.outcomes.items)) failure_line some_failure listed.0 second.0 in
+    let failure = unmet (lists (codes "failure") wanted.fail_on) (have_failure (map (λ (f : Found). (outcome_of f).results) found.outcomes.items)) failure_line some_failure listed.0 second.0 in
     let stuck = is_none_of found.stuck (unmet (lists (codes "stuck") wanted.fail_on) (is_some found.stuck) stuck_line some_stuck others.0 second.1) in
     let complete = is_complete_of found.extent (unmet (lists (codes "incomplete") wanted.fail_on) (not (is_complete found.extent)) incomplete_line some_incomplete others.1 first.1) in
     record {

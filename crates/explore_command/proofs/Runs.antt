@@ -30,7 +30,7 @@ module _ (held : Contents) (wanted : Explore) (runs : ℕ) (config : Config) (im
 
   pub all : (old new : Option (List ℕ)) (left : Contents) (judgement : Judgement) → Appends old new (sampled_text found) → HasName wanted.scripts → IfSome wanted.scripts (λ folder. AreKeptFrom left config wanted.machine.memory folder.now 1 found.ends.items)
       → SparesOthers (IsInNamed wanted.scripts (IsOutcomeScript (length found.ends.items))) held left
-      → IsJudged held wanted.allow (map (λ f. harts_text 0 (outcome_of f)) found.ends.items) (runs_fail wanted.fail_on found) judgement → (judgement ≡ Allowed → found.runs ≡ runs) → IsSampleTold held left wanted runs judgement old new
+      → IsJudged held wanted.allow (map (λ f. harts_text 0 (outcome_of f).results) found.ends.items) (runs_fail wanted.fail_on found) judgement → (judgement ≡ Allowed → found.runs ≡ runs) → IsSampleTold held left wanted runs judgement old new
   all old new left judgement printed named kept spares by whole = record {
     image = image;
     found = found;
@@ -45,7 +45,7 @@ module _ (held : Contents) (wanted : Explore) (runs : ℕ) (config : Config) (im
     whole = whole;
   }
 
-  pub refusals : (old new : Option (List ℕ)) (P : List ℕ → Type 0) → Appends old new (sampled_text found) → HaveRefusals held wanted.allow (map (λ f. harts_text 0 (outcome_of f)) found.ends.items) (runs_fail wanted.fail_on found) P
+  pub refusals : (old new : Option (List ℕ)) (P : List ℕ → Type 0) → Appends old new (sampled_text found) → HaveRefusals held wanted.allow (map (λ f. harts_text 0 (outcome_of f).results) found.ends.items) (runs_fail wanted.fail_on found) P
       → SampleRefusals held wanted runs old new P
   refusals old new P printed so = record { image = image; found = found; image_file = file; inside = inside; runs_made = are_runs; printed = printed; refusals = so }
 

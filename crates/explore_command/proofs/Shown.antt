@@ -11,55 +11,41 @@ use Rattle.command_settings.specs.declared.wanted.Show.{Show}
 use Rattle.elf_loader.specs.Image.{Initial}
 use Rattle.elf_symbols.specs.Named.{Named}
 use Rattle.exploration_text.specs.declared.wording.WordName.{WordName}
-use Rattle.exploration_text.specs.Words.{end_text, words_text}
+use Rattle.exploration_text.specs.Words.{end_text, exploration_text}
 use Rattle.explore_command.proofs.Explored.{judged}
-use Rattle.explore_command.specs.Exploring.{IsAllowFile, IsExploreFault}
+use Rattle.explore_command.specs.Exploring.{IsAllowFile, IsExploreFault, IsFoundIn, exploration_fails}
 use Rattle.explore_command.proofs.Refused.{refusals_in}
 use Rattle.explore_command.specs.Judging.{HaveRefusals, IsJudged, judgement_of_lines, refusals}
-use Rattle.explore_command.specs.Keeping.{AreKept, AreKeptFrom, HasName, IsInNamed, IsKeptAt, IsScriptOf, SparesOthers, stuck_path}
+use Rattle.explore_command.specs.Keeping.{AreKept, HasName, IsInNamed, IsScriptOf, SparesOthers}
 use Rattle.explore_command.specs.declared.judging.Judgement.{Judgement}
 use Rattle.explore_command.specs.declared.judging.Judgement.TheVariants.{Allowed}
 use Rattle.explorer.specs.declared.exploration.Exploration.{Exploration}
-use Rattle.explorer.specs.declared.exploration.Stuck.{Stuck}
-use Rattle.explorer.specs.declared.found.Found.{Found}
-use Rattle.flat_exploration.specs.Drained.{Ending}
+use Rattle.flat_exploration.specs.Outcomes.{Outcome}
 use Rattle.machine_types.specs.declared.config.Config.{Config}
 use Rattle.explore_command.specs.Asking.{HasProgram, HasUnshown}
-use Rattle.explore_command.specs.WordKeeping.{AreWordsKept, bare_of}
-use Rattle.explore_command.specs.Showing.{AreWordsShown, IsFirstOf, IsFoundIn, IsOfFile, IsShowFault, WordRefusals, WordsHave, words_fail}
+use Rattle.explore_command.specs.Showing.{AreWordsShown, IsFirstOf, IsOfFile, IsShowFault, WordRefusals, WordsHave}
 use Rattle.explore_command.specs.Targets.{IsTarget, IsUnplaced, IsUnshown, name_of, names_of, place_of}
 use Rattle.state_search.specs.declared.findings.Extent.TheVariants as extent
-use Rattle.explorer.specs.declared.words.exploration.WordExploration.{WordExploration}
-use Rattle.explorer.specs.declared.words.found.WordFound.{WordFound}
-use Rattle.explorer.specs.WordEnds.{ending_of}
+use Rattle.explorer.specs.Ends.{outcome_of}
 use Rattle.explorer.specs.Words.{CanShow}
-use Rattle.std.proofs.Common.{Err, IfOk, None, Ok, Result}
-use Rattle.std.specs.List.Sorted.{IsStrictlySortedBy}
-use Rattle.std.specs.Ordering.{on}
-use Rattle.std.specs.declared.alloc.AllocError.{AllocError}
-use Rattle.explorer.specs.WordEnds.{CanAlwaysDrain, HasEachEnding, IsRealIn, endings_of}
-use Rattle.explorer.specs.WordOrders.{ending_cmp}
-use Rattle.explorer.specs.WordStuck.{IsStuckIn}
-use Rattle.explorer.specs.WordVisited.{AreVisited}
-use Rattle.flat_model.specs.Flat.{Flat}
 
 -- ---- what is allowed
 
 -- the judgement on the lines of ends, by the names that the words have
-pub judged_of : {X : Type 0} (ending : X → Ending) (held : Contents) (allow : Option Name) (text : Option (List ℕ)) (names told : List WordName) (xs : List X) (fails : List ℕ) (judgement : Judgement) → names ≡ told → IsAllowFile held allow text
-    → judgement ≡ judgement_of_lines text (map (λ x. end_text names (ending x)) xs) fails → IsJudged held allow (map (λ x. end_text told (ending x)) xs) fails judgement
-judged_of ending held allow text names told xs fails judgement same read is =
-    judged held allow text (map (λ x. end_text told (ending x)) xs) fails judgement read (is ∙ ap (λ (n : List WordName). judgement_of_lines text (map (λ x. end_text n (ending x)) xs) fails) same)
+pub judged_of : {X : Type 0} (outcome : X → Outcome) (held : Contents) (allow : Option Name) (text : Option (List ℕ)) (names told : List WordName) (xs : List X) (fails : List ℕ) (judgement : Judgement) → names ≡ told → IsAllowFile held allow text
+    → judgement ≡ judgement_of_lines text (map (λ x. end_text names (outcome x)) xs) fails → IsJudged held allow (map (λ x. end_text told (outcome x)) xs) fails judgement
+judged_of outcome held allow text names told xs fails judgement same read is =
+    judged held allow text (map (λ x. end_text told (outcome x)) xs) fails judgement read (is ∙ ap (λ (n : List WordName). judgement_of_lines text (map (λ x. end_text n (outcome x)) xs) fails) same)
 
 -- what is to be told of the lines of ends
-pub told_of : {X : Type 0} (ending : X → Ending) (held : Contents) (allow : Option Name) (text : Option (List ℕ)) (names told : List WordName) (xs : List X) (fails : List ℕ) (P : List ℕ → Type 0) → names ≡ told → IsAllowFile held allow text
-    → P (refusals text (map (λ x. end_text names (ending x)) xs) ++ fails) → HaveRefusals held allow (map (λ x. end_text told (ending x)) xs) fails P
-told_of ending held allow text names told xs fails P same read so =
-    refusals_in held allow text (map (λ x. end_text told (ending x)) xs) fails P read (subst (λ (n : List WordName). P (refusals text (map (λ x. end_text n (ending x)) xs) ++ fails)) same so)
+pub told_of : {X : Type 0} (outcome : X → Outcome) (held : Contents) (allow : Option Name) (text : Option (List ℕ)) (names told : List WordName) (xs : List X) (fails : List ℕ) (P : List ℕ → Type 0) → names ≡ told → IsAllowFile held allow text
+    → P (refusals text (map (λ x. end_text names (outcome x)) xs) ++ fails) → HaveRefusals held allow (map (λ x. end_text told (outcome x)) xs) fails P
+told_of outcome held allow text names told xs fails P same read so =
+    refusals_in held allow text (map (λ x. end_text told (outcome x)) xs) fails P read (subst (λ (n : List WordName). P (refusals text (map (λ x. end_text n (outcome x)) xs) ++ fails)) same so)
 
 -- ---- what was found
 
-module _ (held : Contents) (show : Show) (config : Config) (image : Initial) (addresses : List ℕ) (words : List Name) (names : List WordName) (found : WordExploration) (inside : IsInside show.explore.machine) (config_is : config ≡ config_named show.explore.machine inside)
+module _ (held : Contents) (show : Show) (config : Config) (image : Initial) (addresses : List ℕ) (words : List Name) (names : List WordName) (found : Exploration) (inside : IsInside show.explore.machine) (config_is : config ≡ config_named show.explore.machine inside)
     (words_are : words ≡ show.words.items) (program : HasProgram held show.explore words image addresses) (named : names ≡ names_of words) (is : IsFoundIn image config addresses show.explore.states found) where
   pub of_file : IsOfFile held show found
   of_file = record {
@@ -74,64 +60,38 @@ module _ (held : Contents) (show : Show) (config : Config) (image : Initial) (ad
   names_are = named ∙ ap names_of words_are
 
   -- what holds of the text that these names make, holds of what was found
-  pub has : (P : List ℕ → Type 0) → P (words_text names found) → WordsHave held show P
-  has P so = record { exploration = found; of_file = of_file; of_text = subst (λ (n : List WordName). P (words_text n found)) names_are so }
+  pub has : (P : List ℕ → Type 0) → P (exploration_text names found) → WordsHave held show P
+  has P so = record { exploration = found; of_file = of_file; of_text = subst (λ (n : List WordName). P (exploration_text n found)) names_are so }
 
   -- and so with what is to be told of its outcomes
-  pub refused : (old new : Option (List ℕ)) (P : List ℕ → Type 0) (text : Option (List ℕ)) → Appends old new (words_text names found) → IsAllowFile held show.explore.allow text
-      → P (refusals text (map (λ f. end_text names (ending_of f)) found.outcomes.items) ++ words_fail show.explore.fail_on found) → WordRefusals held show old new P
+  pub refused : (old new : Option (List ℕ)) (P : List ℕ → Type 0) (text : Option (List ℕ)) → Appends old new (exploration_text names found) → IsAllowFile held show.explore.allow text
+      → P (refusals text (map (λ f. end_text names (outcome_of f)) found.outcomes.items) ++ exploration_fails show.explore.fail_on found) → WordRefusals held show old new P
   refused old new P text printed read so = record {
     exploration = found;
     of_file = of_file;
-    printed = subst (λ (n : List WordName). Appends old new (words_text n found)) names_are printed;
-    refusals = told_of ending_of held show.explore.allow text names (names_of show.words.items) found.outcomes.items (words_fail show.explore.fail_on found) P names_are read so;
+    printed = subst (λ (n : List WordName). Appends old new (exploration_text n found)) names_are printed;
+    refusals = told_of outcome_of held show.explore.allow text names (names_of show.words.items) found.outcomes.items (exploration_fails show.explore.fail_on found) P names_are read so;
   }
 
   -- all of it was done
-  pub shown : (old new : Option (List ℕ)) (left : Contents) (judgement : Judgement) (text : Option (List ℕ)) → Appends old new (words_text names found) → HasName show.explore.scripts → IfSome show.explore.scripts (λ folder. AreWordsKept left config show.explore.machine.memory folder.now found)
+  pub shown : (old new : Option (List ℕ)) (left : Contents) (judgement : Judgement) (text : Option (List ℕ)) → Appends old new (exploration_text names found) → HasName show.explore.scripts → IfSome show.explore.scripts (λ folder. AreKept left config show.explore.machine.memory folder.now found)
       → SparesOthers (IsInNamed show.explore.scripts (IsScriptOf (length found.outcomes.items) found.stuck)) held left → IsAllowFile held show.explore.allow text
-      → judgement ≡ judgement_of_lines text (map (λ f. end_text names (ending_of f)) found.outcomes.items) (words_fail show.explore.fail_on found) → (judgement ≡ Allowed → found.extent ≢ extent.OutOfMemory) → AreWordsShown held left show judgement old new
+      → judgement ≡ judgement_of_lines text (map (λ f. end_text names (outcome_of f)) found.outcomes.items) (exploration_fails show.explore.fail_on found) → (judgement ≡ Allowed → found.extent ≢ extent.OutOfMemory) → AreWordsShown held left show judgement old new
   unfolding of_file
   shown old new left judgement text printed folder kept spares read by whole = record {
     exploration = found;
     of_file = of_file;
-    printed = subst (λ (n : List WordName). Appends old new (words_text n found)) names_are printed;
+    printed = subst (λ (n : List WordName). Appends old new (exploration_text n found)) names_are printed;
     named = folder;
-    kept = subst (λ (c : Config). IfSome show.explore.scripts (λ folder. AreWordsKept left c show.explore.machine.memory folder.now found)) config_is kept;
+    kept = subst (λ (c : Config). IfSome show.explore.scripts (λ folder. AreKept left c show.explore.machine.memory folder.now found)) config_is kept;
     spared = spares;
-    judged = judged_of ending_of held show.explore.allow text names (names_of show.words.items) found.outcomes.items (words_fail show.explore.fail_on found) judgement names_are read by;
+    judged = judged_of outcome_of held show.explore.allow text names (names_of show.words.items) found.outcomes.items (exploration_fails show.explore.fail_on found) judgement names_are read by;
     whole = whole;
   }
 
 pub show_told : (held : Contents) (show : Show) (fault : Fault) → IsExploreFault held show.explore fault ⊎ HasUnshown held show.explore show.words.items fault → IsShowFault held show fault
 show_told held show fault (inl so) = inl so
 show_told held show fault (inr so) = inr (inl so)
-
--- ---- scripts
-
--- one more end goes to the other list, in reverse
-pub one_bare : (before left : List WordFound) (end : WordFound) (bare : Found) (all new : List Found) (whole : List Found) → before ≡ left ++ end ∷ [] → bare ≡ bare_of end → new ≡ all ++ bare ∷ []
-    → map bare_of before ++ reverse all ≡ whole → map bare_of left ++ reverse new ≡ whole
-one_bare before left end bare all new whole popped is pushed so =
-    let front : map bare_of before ≡ map bare_of left ++ bare ∷ [] = ap (map bare_of) popped ∙ (map-append bare_of left (end ∷ []) ∙ ap (λ (b : Found). map bare_of left ++ b ∷ []) (sym is)) in
-    let back : reverse new ≡ bare ∷ reverse all = ap reverse pushed ∙ reverse-append all (bare ∷ []) in
-    ap (λ (xs : List Found). map bare_of left ++ xs) back ∙ (sym (append_assoc (map bare_of left) (bare ∷ []) (reverse all)) ∙ (ap (λ (xs : List Found). xs ++ reverse all) (sym front) ∙ so))
-
--- scripts are kept as they are of the ends without words
-pub kept_bare : (left : Contents) (config : Config) (kib : ℕ) (folder : List ℕ) (e : Exploration) (found : WordExploration) → e.outcomes.items ≡ map bare_of found.outcomes.items → e.stuck ≡ found.stuck
-    → AreKept left config kib folder e → AreWordsKept left config kib folder found
-kept_bare left config kib folder e found items stuck kept = (
-  subst (AreKeptFrom left config kib folder 1) items kept.0,
-  subst (λ (o : Option Stuck). IfSome o (λ s. IsKeptAt left config kib (stuck_path folder) s.script)) stuck kept.1,
-)
-
--- and spare the same other files
-pub spared_bare : (held left : Contents) (folder : List ℕ) (e : Exploration) (found : WordExploration) → e.outcomes.items ≡ map bare_of found.outcomes.items → e.stuck ≡ found.stuck
-    → SparesOthers (IsScriptOf (length e.outcomes.items) e.stuck folder) held left → SparesOthers (IsScriptOf (length found.outcomes.items) found.stuck folder) held left
-spared_bare held left folder e found items stuck spares =
-    let count : length e.outcomes.items ≡ length found.outcomes.items = ap (λ (xs : List Found). length xs) items ∙ length-map found.outcomes.items bare_of in
-    subst (λ (n : ℕ). SparesOthers (IsScriptOf n found.stuck folder) held left) count
-    (subst (λ (o : Option Stuck). SparesOthers (IsScriptOf (length e.outcomes.items) o folder) held left) stuck spares)
 
 -- ---- words, one after the other
 
@@ -175,11 +135,3 @@ module _ (image : Initial) (symbols : List Named) where
     record { before = has.before; later = tail; whole = ap (λ (xs : List Name). has.before ++ xs) (sym first) ∙ has.whole; shown = has.shown },
     unplaced,
   )
-
--- what is said of it, fact by fact
-pub found_in : (image : Initial) (config : Config) (addresses : List ℕ) (limit : ℕ) (r : Result WordExploration AllocError) → IfOk r (λ e. All (IsRealIn image config addresses) e.outcomes.items)
-    → IfOk r (λ e. e.extent ≡ extent.Complete → HasEachEnding image config addresses (endings_of e.outcomes.items)) → IfOk r (λ e. e.extent ≡ extent.Complete → e.stuck ≡ None → CanAlwaysDrain image config)
-    → IfOk r (λ e. e.extent ≡ extent.Complete → e.stuck ≡ None → e.outcomes.items ≢ []) → IfOk r (λ e. IfSome e.stuck (IsStuckIn image config addresses)) → IfOk r (λ e. IsStrictlySortedBy (on ending_of ending_cmp) e.outcomes.items)
-    → IfOk r (λ e. e.states ≤ limit) → IfOk r (λ e. e.extent ≡ extent.LimitMet → e.states ≡ limit) → IfOk r (λ e. (states : List Flat) × AreVisited image config addresses e states) → IfOk r (IsFoundIn image config addresses limit)
-found_in image config addresses limit (Ok e) real complete none_stuck some stuck order within full visited = record { real = real; complete = complete; none_stuck = none_stuck; some = some; stuck = stuck; order = order; within = within; full = full; visited = visited }
-found_in image config addresses limit (Err error) real complete none_stuck some stuck order within full visited = tt

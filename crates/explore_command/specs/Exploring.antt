@@ -11,7 +11,7 @@ use Rattle.command_files.specs.declared.fault.Fault.{Fault}
 use Rattle.command_files.specs.declared.fault.Fault.TheVariants.{CannotMake, CannotRead, CannotWrite, Configuration, Image, OutOfMemory}
 use Rattle.command_settings.specs.declared.wanted.Explore.{Explore}
 use Rattle.elf_loader.specs.Image.{Initial}
-use Rattle.exploration_text.specs.Text.{exploration_text, harts_text}
+use Rattle.exploration_text.specs.Words.{end_text, exploration_text}
 use Rattle.explore_command.specs.Judging.{HaveRefusals, IsJudged, fail_lines, have_failure, is_complete}
 use Rattle.explore_command.specs.Keeping.{AreKept, HasName, IsInNamed, IsScriptOf, SparesOthers}
 use Rattle.explore_command.specs.declared.judging.Judgement.{Judgement}
@@ -30,22 +30,22 @@ use Rattle.text_fields.specs.Writing.{Begins}
 
 -- what else it came to that it may not
 abbrev pub exploration_fails : Option Name → Exploration → List ℕ
-exploration_fails list found = fail_lines list (have_failure (outcomes_of found.outcomes.items)) (is_some found.stuck) (not (is_complete found.extent))
+exploration_fails list found = fail_lines list (have_failure (map (λ f. (outcome_of f).results) found.outcomes.items)) (is_some found.stuck) (not (is_complete found.extent))
 
 -- ---- what is found
 
--- each end is a flat run's, and its script, where there is one, leads there; where it says complete no end is missing, and where nothing is stuck each flat run can go on to an end, and one is told;
+-- each end is a flat run's, with the words at these addresses, and its script, where there is one, leads there; where it says complete no end is missing, and where nothing is stuck each flat run can go on to an end, and one is told;
 -- the ends stand in their order, each once; there are states, no more than the limit, as many as it says, that were found
-pub record IsFoundIn (image : Initial) (config : Config) (limit : ℕ) (found : Exploration) : Type 0 where
-  pub real : All (IsRealIn image config) found.outcomes.items
-  pub complete : found.extent ≡ Complete → HasEachEnd image config (outcomes_of found.outcomes.items)
-  pub none_stuck : found.extent ≡ Complete → found.stuck ≡ None → CanAlwaysEnd image config
+pub record IsFoundIn (image : Initial) (config : Config) (addresses : List ℕ) (limit : ℕ) (found : Exploration) : Type 0 where
+  pub real : All (IsRealIn image config addresses) found.outcomes.items
+  pub complete : found.extent ≡ Complete → HasEachEnd image config addresses (outcomes_of found.outcomes.items)
+  pub none_stuck : found.extent ≡ Complete → found.stuck ≡ None → CanAlwaysEnd image config addresses
   pub some : found.extent ≡ Complete → found.stuck ≡ None → found.outcomes.items ≢ []
-  pub stuck : IfSome found.stuck (IsStuckIn image config)
+  pub stuck : IfSome found.stuck (IsStuckIn image config addresses)
   pub order : IsStrictlySortedBy (on outcome_of outcome_cmp) found.outcomes.items
   pub within : found.states ≤ limit
   pub full : found.extent ≡ LimitMet → found.states ≡ limit
-  pub visited : (states : List Flat) × AreVisited image config found states
+  pub visited : (states : List Flat) × AreVisited image config addresses found states
 
 -- what was found of the image in the file was printed, its scripts are in the folder, if one was named, and each other file is as before, and it was judged by the file that says what is allowed; it is allowed only where memory sufficed for all states, or for as many as were asked for
 pub record IsExplorationTold (held left : Contents) (wanted : Explore) (judgement : Judgement) (old new : Option (List ℕ)) : Type 0 where
@@ -53,12 +53,12 @@ pub record IsExplorationTold (held left : Contents) (wanted : Explore) (judgemen
   pub exploration : Exploration
   pub image_file : HoldsImage held wanted.raw wanted.image.now wanted.machine.memory image
   pub inside : IsInside wanted.machine
-  pub found : IsFoundIn image (config_named wanted.machine inside) wanted.states exploration
-  pub printed : Appends old new (exploration_text exploration)
+  pub found : IsFoundIn image (config_named wanted.machine inside) [] wanted.states exploration
+  pub printed : Appends old new (exploration_text [] exploration)
   pub named : HasName wanted.scripts
   pub kept : IfSome wanted.scripts (λ folder. AreKept left (config_named wanted.machine inside) wanted.machine.memory folder.now exploration)
   pub spared : SparesOthers (IsInNamed wanted.scripts (IsScriptOf (length exploration.outcomes.items) exploration.stuck)) held left
-  pub judged : IsJudged held wanted.allow (map (λ f. harts_text 0 (outcome_of f)) exploration.outcomes.items) (exploration_fails wanted.fail_on exploration) judgement
+  pub judged : IsJudged held wanted.allow (map (λ f. end_text [] (outcome_of f)) exploration.outcomes.items) (exploration_fails wanted.fail_on exploration) judgement
   pub whole : judgement ≡ Allowed → exploration.extent ≢ extent.OutOfMemory
 
 -- P holds of the text of what was found of the image in the file
@@ -67,8 +67,8 @@ pub record ExplorationHas (held : Contents) (wanted : Explore) (P : List ℕ →
   pub exploration : Exploration
   pub image_file : HoldsImage held wanted.raw wanted.image.now wanted.machine.memory image
   pub inside : IsInside wanted.machine
-  pub found : IsFoundIn image (config_named wanted.machine inside) wanted.states exploration
-  pub of_text : P (exploration_text exploration)
+  pub found : IsFoundIn image (config_named wanted.machine inside) [] wanted.states exploration
+  pub of_text : P (exploration_text [] exploration)
 
 -- P holds of what is to be told of the outcomes that were printed, those of the image in the file
 pub record ExplorationRefusals (held : Contents) (wanted : Explore) (old new : Option (List ℕ)) (P : List ℕ → Type 0) : Type 0 where
@@ -76,9 +76,9 @@ pub record ExplorationRefusals (held : Contents) (wanted : Explore) (old new : O
   pub exploration : Exploration
   pub image_file : HoldsImage held wanted.raw wanted.image.now wanted.machine.memory image
   pub inside : IsInside wanted.machine
-  pub found : IsFoundIn image (config_named wanted.machine inside) wanted.states exploration
-  pub printed : Appends old new (exploration_text exploration)
-  pub refusals : HaveRefusals held wanted.allow (map (λ f. harts_text 0 (outcome_of f)) exploration.outcomes.items) (exploration_fails wanted.fail_on exploration) P
+  pub found : IsFoundIn image (config_named wanted.machine inside) [] wanted.states exploration
+  pub printed : Appends old new (exploration_text [] exploration)
+  pub refusals : HaveRefusals held wanted.allow (map (λ f. end_text [] (outcome_of f)) exploration.outcomes.items) (exploration_fails wanted.fail_on exploration) P
 
 -- ---- what is allowed
 

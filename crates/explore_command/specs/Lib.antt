@@ -4,7 +4,6 @@ pub mod Judging
 pub mod Keeping
 pub mod Sampling
 pub mod Asking
-pub mod WordKeeping
 pub mod Showing
 pub mod Targets
 pub mod ModelKeeping

@@ -1,5 +1,5 @@
 -- What it means that a search which was to fail on anything passed.
-use Rattle.std.specs.Prelude.{ℕ, ◌≡◌, ◌&&◌, Bool, true, false, List, Option, codes}
+use Rattle.std.specs.Prelude.{ℕ, ◌≡◌, ◌&&◌, Bool, true, false, List, [], Option, codes}
 use Rattle.command_files.specs.Contents.{Contents}
 use Rattle.command_files.specs.Faults.{Name}
 use Rattle.command_files.specs.Sizes.{config_named}
@@ -26,7 +26,7 @@ lists_all list = lists (codes "failure") list && (lists (codes "stuck") list && 
 -- no hart ever stops, and wherever flat events lead, some more lead to where all harts have ended
 pub record IsSafe (image : Initial) (config : Config) : Type 0 where
   pub none_stops : NoneStops image config
-  pub ends : CanAlwaysEnd image config
+  pub ends : CanAlwaysEnd image config []
 
 abbrev pub PassingIsSafe : Type 0
 PassingIsSafe = (held left : Contents) (wanted : Explore) (old new : Option (List ℕ)) (told : IsExplorationTold held left wanted Allowed old new) → IsImage told.image → lists_all wanted.fail_on ≡ true → IsSafe told.image (config_named wanted.machine told.inside)

@@ -13,14 +13,14 @@ use Rattle.explore_command.specs.Judging.{HaveRefusals, IsJudged, fail_lines, ha
 use Rattle.explore_command.specs.Keeping.{AreKeptFrom, HasName, IsInNamed, IsOutcomeScript, SparesOthers}
 use Rattle.explore_command.specs.declared.judging.Judgement.{Judgement}
 use Rattle.explore_command.specs.declared.judging.Judgement.TheVariants.{Allowed}
-use Rattle.explorer.specs.Ends.{outcome_of, outcomes_of}
+use Rattle.explorer.specs.Ends.{outcome_of}
 use Rattle.machine_types.specs.declared.config.Config.{Config}
 use Rattle.explorer.specs.Sampled as ends
 use Rattle.explorer.specs.declared.samples.sampled.Sampled.{Sampled}
 
 -- what else they came to that they may not: runs never show that there is no other end
 abbrev pub runs_fail : Option Name → Sampled → List ℕ
-runs_fail list found = fail_lines list (have_failure (outcomes_of found.ends.items)) false true
+runs_fail list found = fail_lines list (have_failure (map (λ f. (outcome_of f).results) found.ends.items)) false true
 
 -- so many runs were made, or fewer where memory ended, each end is one, its script leads there, and so many came to it
 pub record AreRuns (image : Initial) (config : Config) (runs : ℕ) (found : Sampled) : Type 0 where
@@ -39,7 +39,7 @@ pub record IsSampleTold (held left : Contents) (wanted : Explore) (runs : ℕ) (
   pub named : HasName wanted.scripts
   pub kept : IfSome wanted.scripts (λ folder. AreKeptFrom left (config_named wanted.machine inside) wanted.machine.memory folder.now 1 found.ends.items)
   pub spared : SparesOthers (IsInNamed wanted.scripts (IsOutcomeScript (length found.ends.items))) held left
-  pub judged : IsJudged held wanted.allow (map (λ f. harts_text 0 (outcome_of f)) found.ends.items) (runs_fail wanted.fail_on found) judgement
+  pub judged : IsJudged held wanted.allow (map (λ f. harts_text 0 (outcome_of f).results) found.ends.items) (runs_fail wanted.fail_on found) judgement
   pub whole : judgement ≡ Allowed → found.runs ≡ runs
 
 -- P holds of the text of what runs of the image in the file came to
@@ -59,4 +59,4 @@ pub record SampleRefusals (held : Contents) (wanted : Explore) (runs : ℕ) (old
   pub inside : IsInside wanted.machine
   pub runs_made : AreRuns image (config_named wanted.machine inside) runs found
   pub printed : Appends old new (sampled_text found)
-  pub refusals : HaveRefusals held wanted.allow (map (λ f. harts_text 0 (outcome_of f)) found.ends.items) (runs_fail wanted.fail_on found) P
+  pub refusals : HaveRefusals held wanted.allow (map (λ f. harts_text 0 (outcome_of f).results) found.ends.items) (runs_fail wanted.fail_on found) P

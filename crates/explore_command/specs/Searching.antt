@@ -31,7 +31,7 @@ use Rattle.state_search.specs.declared.findings.Extent.TheVariants as extent
 use Rattle.window_search.specs.Openings.{NeverOpens}
 use Rattle.window_search.specs.declared.left_out.Reach.{Reach}
 use Rattle.window_search.specs.declared.left_out.Reach.TheVariants as reach
-use Rattle.explorer.specs.WordOrders.{ending_cmp}
+use Rattle.explorer.specs.Ranks.{outcome_cmp}
 
 -- what is said to show an outcome does; where the machine's own search is complete, each of its outcomes is told as one of the machine, and each other as the model's alone;
 -- the search under the model finds no state only where a hart never comes from reset to an access or its end, or says that it left out more; the machine's search finds no more states than the limit, and says where it met it; the model's finds no more, unless it says that it met a limit or that memory ended;
@@ -42,7 +42,7 @@ pub record IsFoundUnder (image : Initial) (config : Config) (addresses : List �
   pub alone : found.machine ≡ Complete → All (λ o. IsDecided o.way) found.outcomes.items
   pub opens : found.reach ≡ reach.Whole → found.states ≡ 0 → NeverOpens image config
   pub bounded : found.reach ≢ reach.LimitMet → found.reach ≢ reach.OutOfMemory → found.states ≤ limit
-  pub order : IsStrictlySortedBy (on end_of ending_cmp) found.outcomes.items
+  pub order : IsStrictlySortedBy (on end_of outcome_cmp) found.outcomes.items
   pub within : found.machine_states ≤ limit
   pub full : found.machine ≡ LimitMet → found.machine_states ≡ limit
   pub model : found.model ≡ config.model

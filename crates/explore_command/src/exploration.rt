@@ -1,16 +1,17 @@
 //! An exploration, as it is told, judged and kept.
 
-ghost use Rattle.std.specs.Prelude.{◌≢◌, is_some, length, not};
+ghost use Rattle.std.specs.Prelude.{◌≡◌, ◌≢◌, [], is_some, length, not};
 ghost use Rattle.explore_command.specs.Judging.{is_complete};
 ghost use Rattle.explore_command.specs.Keeping.{AreKept, IsScriptOf};
-ghost use Rattle.exploration_text.specs.Text.{exploration_text, harts_text};
+ghost use Rattle.exploration_text.specs.Words.{end_text, exploration_text};
 ghost use Rattle.explorer.specs.Ends.{outcome_of};
+ghost use Rattle.flat_model.specs.Shown.{told};
 ghost use Rattle.state_search.specs.declared.findings.Extent.TheVariants as extent;
 
 use crate::findings::Findings;
 use crate::keeping::{Folder, Keepable};
 use command_files::{Fault, Files};
-use exploration_text::{harts_text, text_of};
+use exploration_text::{end_text, text_of};
 use explorer::{Exploration, Found};
 use flat_model::HartResult;
 use state_search::Extent;
@@ -19,13 +20,13 @@ use std::alloc::{AllocError, Global};
 impl Findings for Exploration {
     type Outcome = Found;
 
-    ghost text = { exploration_text };
+    ghost text = { exploration_text [] };
 
     ghost outcomes = { λ e. e.outcomes.items };
 
-    ghost line = { λ e f. harts_text 0 (outcome_of f) };
+    ghost line = { λ e f. end_text [] (outcome_of f) };
 
-    ghost harts = { outcome_of };
+    ghost harts = { λ f. (outcome_of f).results };
 
     ghost is_stuck = { λ e. is_some e.stuck };
 
@@ -34,7 +35,7 @@ impl Findings for Exploration {
     ghost IsWhole = { λ e. e.extent ≢ extent.OutOfMemory };
 
     fn text(&self, alloc: Global) -> Result<Vec<u8>, AllocError> {
-        text_of(alloc, self)
+        text_of(alloc, &[], self)
     }
 
     fn outcomes(&self) -> &[Found] {
@@ -42,10 +43,12 @@ impl Findings for Exploration {
     }
 
     fn line(&self, alloc: Global, outcome: &Found) -> Result<Vec<u8>, AllocError> {
-        harts_text(alloc, &outcome.harts)
+        end_text(alloc, &[], &outcome.harts, &outcome.words)
     }
 
-    fn harts(outcome: &Found) -> &[HartResult] {
+    fn harts(outcome: &Found) -> &[HartResult]
+        ensures { told result.now ≡ (outcome_of outcome.now).results }
+    {
         &outcome.harts
     }
 

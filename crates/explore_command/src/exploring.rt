@@ -1,6 +1,6 @@
 //! `rvtl explore`: every end that the machine can bring a program to is found, told, judged and kept.
 
-ghost use Rattle.std.specs.Prelude.{◌≡◌, ◌⊎◌, ◌<◌, Err, IfErr, IfOk, OnErr};
+ghost use Rattle.std.specs.Prelude.{◌≡◌, ◌⊎◌, ◌<◌, [], Err, IfErr, IfOk, OnErr};
 ghost use Rattle.command_files.specs.Sizes.{IsOutside};
 ghost use Rattle.explore_command.specs.Exploring.{ComesBeforeScripts, ExplorationHas, ExplorationRefusals, IsExploreFault, IsExplorationTold, IsFoundIn, LeavesPart};
 ghost use Rattle.explore_command.specs.Judging.{IsToldBy};
@@ -75,14 +75,14 @@ fn found_in<P: Progress>(
     progress: &P,
 ) -> Result<Exploration, AllocError>
     requires room { 0 < wanted.states }
-    ensures { IfOk result (IsFoundIn asked.now.image asked.now.config wanted.entry.states) }
+    ensures { IfOk result (IsFoundIn asked.now.image asked.now.config [] wanted.entry.states) }
 {
     let watch = Telling { progress };
     let exploring = Exploring {
         limit: wanted.states,
         shortened: wanted.scripts.is_some(),
     };
-    let found = explore(alloc, &asked.image, asked.config, exploring, &watch);
+    let found = explore(alloc, &asked.image, asked.config, &[], exploring, &watch);
     progress.end();
     found
 }

@@ -1,7 +1,6 @@
 //! `rvtl explore --show`, over files and streams that the caller hands in.
 
 mod asked;
-mod keeping;
 mod showing;
 mod targets;
 mod words;

@@ -10,14 +10,14 @@ use Rattle.explorer.specs.declared.found.Realisation.TheVariants.{Events, Limit,
 use Rattle.explorer.specs.Ends.{outcome_of}
 use Rattle.explorer.specs.Orders.{same_outcome}
 use Rattle.explorer.specs.Ranks.{outcome_cmp}
-use Rattle.flat_model.specs.Shown.{HartEnd, results}
+use Rattle.flat_exploration.specs.Outcomes.{Outcome, machine_outcome}
 use Rattle.machine_types.specs.declared.config.Config.{Config}
 use Rattle.machine_types.specs.declared.event.Event.{Event}
 use Rattle.explorer.specs.Sampled.{AreCounted, IsRealEnd, IsSampledRun, IsShort, LeadsToEnd, all_ended, ends_led, is_outcome_of, with_times, times_of}
 use Rattle.schedules.specs.Schedules.{led}
 
 -- equal as code finds it
-same : (a b : List HartEnd) → is_eq (outcome_cmp a b) ≡ true → a ≡ b
+same : (a b : Outcome) → is_eq (outcome_cmp a b) ≡ true → a ≡ b
 same a b t = same_outcome a b ((Equal-is (outcome_cmp a b)).0 t)
 
 -- what stands with an end behind an insert
@@ -36,15 +36,15 @@ pub room : (image : Initial) (config : Config) (counted : List (Found × ℕ)) (
 room image config counted unended runs are found = let few = count_by-le-length (is_outcome_of found) (ends_led image config are.schedules) in omega (arith, few, are.times found, are.others)
 
 module _ (image : Initial) (config : Config) (events : List Event) (run : IsSampledRun image config events) where
-  abbrev pub outcome : List HartEnd
-  outcome = results (led image config events)
+  abbrev pub outcome : Outcome
+  outcome = machine_outcome [] (led image config events)
 
-  led_more : (b : Bool) (all : List (List Event)) → all_ended outcome ≡ b → ends_led image config (events ∷ all) ≡ cond b (outcome ∷ ends_led image config all) (ends_led image config all)
+  led_more : (b : Bool) (all : List (List Event)) → all_ended outcome.results ≡ b → ends_led image config (events ∷ all) ≡ cond b (outcome ∷ ends_led image config all) (ends_led image config all)
   led_more b all is = ap (λ x. cond x (outcome ∷ ends_led image config all) (ends_led image config all)) is
 
   module _ (counted : List (Found × ℕ)) (unended runs : ℕ) (are : AreCounted image config counted unended runs) where
     -- a hart hadn't ended
-    pub one_unended : all_ended outcome ≡ false → AreCounted image config counted (unended + 1) (runs + 1)
+    pub one_unended : all_ended outcome.results ≡ false → AreCounted image config counted (unended + 1) (runs + 1)
     one_unended is = let more = led_more false are.schedules is in record {
       schedules = events ∷ are.schedules;
       count = omega (arith, are.count);
@@ -54,7 +54,7 @@ module _ (image : Initial) (config : Config) (events : List Event) (run : IsSamp
     }
 
     -- all had ended, and the number at this end is one higher
-    pub one_ended : (end : Found) (after : List (Found × ℕ)) → all_ended outcome ≡ true → outcome ≡ outcome_of end
+    pub one_ended : (end : Found) (after : List (Found × ℕ)) → all_ended outcome.results ≡ true → outcome ≡ outcome_of end
         → ((found : Found) → times_of found after ≡ cond (is_eq (outcome_cmp (outcome_of end) (outcome_of found))) (times_of end counted + 1) (times_of found counted))
         → AreCounted image config after unended (runs + 1)
     one_ended end after is of_end times = record {
@@ -65,7 +65,7 @@ module _ (image : Initial) (config : Config) (events : List Event) (run : IsSamp
       others = let n = ap length more in omega (arith, n, are.others);
     }
       where
-        ends : List (List HartEnd)
+        ends : List Outcome
         ends = ends_led image config are.schedules
 
         more : ends_led image config (events ∷ are.schedules) ≡ outcome ∷ ends
@@ -101,9 +101,9 @@ end_counted image config counted after unended runs n end told are reached short
         ap (λ o. unwrap_or o 0) (updates found) ∙ (times_behind test (n + 1) _ ∙ ap (λ m. cond test (m + 1) (times_of found counted)) times)
 
     -- the run's own events are counted, and not those of the script that is told
-    go : (script : Realisation) → LeadsToEnd image config (outcome_of end) script → IsShort script → AreCounted image config after unended (runs + 1)
+    go : (script : Realisation) → LeadsToEnd image config (outcome_of end).results script → IsShort script → AreCounted image config after unended (runs + 1)
     go (Events events) leads few =
-        one_ended image config events.items (record { replays = leads.replays; moves = leads.moves; within = few }) counted unended runs are told after (ap all_ended leads.there ∙ reached.0) (leads.there ∙ sym alike) step
+        one_ended image config events.items (record { replays = leads.replays; moves = leads.moves; within = few }) counted unended runs are told after (ap all_ended leads.there ∙ reached.0) ((λ i. record { results = leads.there i; words = sym reached.2 i }) ∙ sym alike) step
     go NoMemory leads few = absurd leads
     go Limit leads few = absurd leads
     go Unrealised leads few = absurd leads

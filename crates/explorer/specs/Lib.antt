@@ -1,5 +1,4 @@
 pub mod Ends
-pub mod Laws
 pub mod Orders
 pub mod Outcomes
 pub mod Ranks
@@ -8,9 +7,5 @@ pub mod Stuck
 pub mod Visited
 pub mod Told
 pub mod FinalWords
-pub mod WordEnds
-pub mod WordOrders
-pub mod WordStuck
-pub mod WordVisited
 pub mod Words
 pub mod Sampled

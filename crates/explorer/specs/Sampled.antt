@@ -10,7 +10,8 @@ use Rattle.explorer.specs.declared.found.Realisation.{Realisation}
 use Rattle.explorer.specs.declared.found.Realisation.TheVariants.{Events}
 use Rattle.explorer.specs.Ends.{outcome_of}
 use Rattle.explorer.specs.Ranks.{outcome_cmp}
-use Rattle.flat_model.specs.Shown.{HartEnd, results}
+use Rattle.flat_exploration.specs.Outcomes.{Outcome, machine_outcome}
+use Rattle.flat_model.specs.Shown.{HartEnd}
 use Rattle.hart.specs.Run.{is_running}
 use Rattle.machine_types.specs.declared.config.Config.{Config}
 use Rattle.machine_types.specs.declared.event.Event.{Event}
@@ -26,17 +27,17 @@ all_ended [] = true
 all_ended (r ∷ rs) = not (is_running r.status) && all_ended rs
 
 abbrev pub LeadsToEnd : Initial → Config → List HartEnd → Realisation → Type 0
-LeadsToEnd image config outcome (Events events) = LeadsThere image config (HasResults outcome) events.items
-LeadsToEnd image config outcome _ = ⊥
+LeadsToEnd image config results (Events events) = LeadsThere image config (HasResults results) events.items
+LeadsToEnd image config results _ = ⊥
 
--- it is an end, and its script leads there
+-- it is an end, without words, and its script leads there
 abbrev pub IsRealEnd : Initial → Config → Found → Type 0
-IsRealEnd image config found = (all_ended (outcome_of found) ≡ true) × LeadsToEnd image config (outcome_of found) found.script
+IsRealEnd image config found = (all_ended (outcome_of found).results ≡ true) × LeadsToEnd image config (outcome_of found).results found.script × (found.words.items ≡ [])
 
 -- ---- how often
 
 -- the outcome is this end's
-abbrev pub is_outcome_of : Found → List HartEnd → Bool
+abbrev pub is_outcome_of : Found → Outcome → Bool
 is_outcome_of found outcome = is_eq (outcome_cmp outcome (outcome_of found))
 
 -- each end with its number
@@ -65,8 +66,8 @@ IsShort (Events events) = length events.items ≤ most_events
 IsShort _ = ⊥
 
 -- what those of the lists of events lead to that end all harts
-abbrev pub ends_led : Initial → Config → List (List Event) → List (List HartEnd)
-ends_led image config schedules = filter all_ended (map (λ events. results (led image config events)) schedules)
+abbrev pub ends_led : Initial → Config → List (List Event) → List Outcome
+ends_led image config schedules = filter (λ (o : Outcome). all_ended o.results) (map (λ events. machine_outcome [] (led image config events)) schedules)
 
 -- there are as many lists of events as runs are told, each as of a run from reset: so many of them lead to each end, and so many to none
 pub record AreCounted (image : Initial) (config : Config) (counted : List (Found × ℕ)) (to_none runs : ℕ) : Type 0 where

@@ -7,7 +7,7 @@ use Rattle.std.proofs.lemmas.List.Elements.{All-weaker}
 use Rattle.architecture_outcomes.specs.Outcomes.{IsDecided, IsWitnessed, TellsEachEnd, end_of}
 use Rattle.architecture_outcomes.specs.declared.architecture.Architecture.{Architecture}
 use Rattle.elf_loader.specs.Image.{Initial}
-use Rattle.explorer.specs.WordOrders.{ending_cmp}
+use Rattle.explorer.specs.Ranks.{outcome_cmp}
 use Rattle.explorer.specs.Words.{CanShow, CanShowEach}
 use Rattle.fence_audit.specs.Answers.{IsSearchOf}
 use Rattle.machine_types.specs.declared.config.Config.{Config}
@@ -24,7 +24,7 @@ shows_same image made addresses same all = All-weaker (CanShow image) (CanShow m
 module _ (image made : Initial) (same : made ≡ image) (config : Config) (addresses : List ℕ) (window limit : ℕ) where
   pub searched : (r : Result Architecture AllocError) → IfOk r (λ a. All (IsWitnessed made config addresses) a.outcomes.items)
       → IfOk r (λ a. a.machine ≡ Complete → TellsEachEnd made config addresses a.outcomes.items) → IfOk r (λ a. a.machine ≡ Complete → All (λ o. IsDecided o.way) a.outcomes.items)
-      → IfOk r (λ a. a.reach ≢ LimitMet → a.reach ≢ OutOfMemory → a.states ≤ limit) → IfOk r (λ a. IsStrictlySortedBy (on end_of ending_cmp) a.outcomes.items)
+      → IfOk r (λ a. a.reach ≢ LimitMet → a.reach ≢ OutOfMemory → a.states ≤ limit) → IfOk r (λ a. IsStrictlySortedBy (on end_of outcome_cmp) a.outcomes.items)
       → IfOk r (λ a. a.model ≡ config.model) → IfOk r (λ a. a.window ≡ min window 64) → IfOk r (IsSearchOf image config addresses window limit)
   searched (Ok a) shown machine alone bounded order model width =
       subst (λ (i : Initial). IsSearchOf i config addresses window limit a) same

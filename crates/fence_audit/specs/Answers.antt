@@ -7,7 +7,7 @@ use Rattle.architecture_outcomes.specs.Outcomes.{IsDecided, IsWitnessed, TellsEa
 use Rattle.architecture_outcomes.specs.declared.architecture.Architecture.{Architecture}
 use Rattle.architecture_outcomes.specs.declared.outcome.Outcome.{Outcome}
 use Rattle.elf_loader.specs.Image.{Initial}
-use Rattle.explorer.specs.WordOrders.{ending_cmp}
+use Rattle.explorer.specs.Ranks.{outcome_cmp}
 use Rattle.fence_audit.specs.declared.answers.Answer.{Answer}
 use Rattle.fence_audit.specs.declared.answers.Answer.TheVariants.{Bounded, Fewer, Other, Same}
 use Rattle.machine_types.specs.declared.config.Config.{Config}
@@ -25,7 +25,7 @@ pub record IsSearchOf (image : Initial) (config : Config) (addresses : List ℕ)
   pub machine : found.machine ≡ Complete → TellsEachEnd image config addresses found.outcomes.items
   pub alone : found.machine ≡ Complete → All (λ o. IsDecided o.way) found.outcomes.items
   pub bounded : found.reach ≢ LimitMet → found.reach ≢ OutOfMemory → found.states ≤ limit
-  pub order : IsStrictlySortedBy (on end_of ending_cmp) found.outcomes.items
+  pub order : IsStrictlySortedBy (on end_of outcome_cmp) found.outcomes.items
   pub model : found.model ≡ config.model
   pub window_is : found.window ≡ min window 64
 

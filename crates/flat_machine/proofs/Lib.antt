@@ -16,8 +16,7 @@ mod Numbered
 mod Keeping
 mod Followings
 mod Opened
-mod OnwardKeeping
-mod OnwardFollowing
+mod EndsShown
 mod SettledNodes
 mod AloneMoves
 mod Addresses

@@ -15,8 +15,7 @@ pub mod OnePatching
 pub mod SameNodes
 pub mod OneKey
 pub mod Onward
-pub mod OnwardKey
-pub mod SameEndings
+pub mod SameOutcomes
 pub mod Alone
 pub mod Happenings
 pub mod Remembered

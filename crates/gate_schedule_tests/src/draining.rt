@@ -3,7 +3,7 @@
 use crate::exploring::{Found, is_whole};
 use crate::programs::{ONE_WORD, S, TWO_WRITES, TWO_WRITES_FENCED, X, Y, config_of, image_of};
 use elf_loader::Image;
-use flat_machine::{DrainingMachine, Ending, Tables};
+use flat_machine::{FlatMachine, Outcome, Tables};
 use hart::Status;
 use machine_types::MemoryModel;
 use state_search::{Unwatched, search};
@@ -23,26 +23,26 @@ struct Case {
     ends: &'static [Drained],
 }
 
-fn is_end(ending: &Ending, end: Drained) -> bool {
+fn is_end(outcome: &Outcome, end: Drained) -> bool {
     let (code, x, y) = end;
-    match ending.results().harts().last() {
-        Some(last) => last.status == Status::Exited(code) && ending.words() == [x, y].as_slice(),
+    match outcome.results().harts().last() {
+        Some(last) => last.status == Status::Exited(code) && outcome.words() == [x, y].as_slice(),
         None => false,
     }
 }
 
-fn is_among(found: &[Ending], end: Drained) -> bool {
-    found.iter().any(|ending| is_end(ending, end))
+fn is_among(found: &[Outcome], end: Drained) -> bool {
+    found.iter().any(|outcome| is_end(outcome, end))
 }
 
 /// Whether these are the ends, in any order.
-fn are_ends(found: &[Ending], ends: &[Drained]) -> bool {
+fn are_ends(found: &[Outcome], ends: &[Drained]) -> bool {
     found.len() == ends.len() && ends.iter().all(|end| is_among(found, *end))
 }
 
 fn found_by(
     alloc: Global,
-    machine: &DrainingMachine<'_>,
+    machine: &FlatMachine<'_>,
     ends: &[Drained],
 ) -> Result<Found, AllocError> {
     let findings = search(machine, Tables::new(alloc), alloc, 1000, &Unwatched)?;
@@ -57,7 +57,7 @@ fn found_by(
 fn found_in(alloc: Global, image: &Image, case: &Case) -> Result<Found, Fail> {
     let mut config = config_of(case.harts, 2)?;
     config.model = case.model;
-    let machine = DrainingMachine::new(alloc, image, config, &[X, Y])?;
+    let machine = FlatMachine::new(alloc, image, config, &[X, Y])?;
     Ok(found_by(alloc, &machine, case.ends)?)
 }
 

@@ -6,7 +6,7 @@ use crate::programs::{
 };
 use crate::same::same;
 use elf_loader::Image;
-use flat_machine::{FlatMachine, Results, Tables};
+use flat_machine::{FlatMachine, Outcome, Tables};
 use state_search::{Extent, Unwatched, search};
 use std::alloc::{AllocError, Global};
 use std::process::Abort;
@@ -31,12 +31,14 @@ pub struct Found {
     pub stuck: usize,
 }
 
-fn is_among(found: &[Results], ends: &[End]) -> bool {
-    found.iter().any(|results| are_ends(results.harts(), ends))
+fn is_among(found: &[Outcome], ends: &[End]) -> bool {
+    found
+        .iter()
+        .any(|outcome| are_ends(outcome.results().harts(), ends))
 }
 
 /// Whether these are the outcomes, in any order.
-fn are_outcomes(found: &[Results], outcomes: &[&[End]]) -> bool {
+fn are_outcomes(found: &[Outcome], outcomes: &[&[End]]) -> bool {
     found.len() == outcomes.len() && outcomes.iter().all(|ends| is_among(found, ends))
 }
 
@@ -56,7 +58,7 @@ fn found_by(
 
 fn found_in(alloc: Global, image: &Image, case: &Case) -> Result<Found, Fail> {
     let config = config_of(case.harts, case.ways)?;
-    let machine = FlatMachine::new(alloc, image, config)?;
+    let machine = FlatMachine::new(alloc, image, config, &[])?;
     Ok(found_by(alloc, &machine, case.outcomes)?)
 }
 

@@ -1,10 +1,11 @@
 //! Random runs, as they are told, judged and kept.
 
-ghost use Rattle.std.specs.Prelude.{◌≤◌, false, length, true};
+ghost use Rattle.std.specs.Prelude.{◌≡◌, ◌≤◌, false, length, true};
 ghost use Rattle.exploration_text.specs.Sampling.{sampled_text};
 ghost use Rattle.exploration_text.specs.Text.{harts_text};
 ghost use Rattle.explore_command.specs.Keeping.{AreKeptFrom, IsOutcomeScript};
 ghost use Rattle.explorer.specs.Ends.{outcome_of};
+ghost use Rattle.flat_model.specs.Shown.{told};
 
 use crate::findings::Findings;
 use crate::keeping::{Folder, Keepable};
@@ -29,9 +30,9 @@ impl Findings for Runs {
 
     ghost outcomes = { λ r. r.sampled.ends.items };
 
-    ghost line = { λ r f. harts_text 0 (outcome_of f) };
+    ghost line = { λ r f. harts_text 0 (outcome_of f).results };
 
-    ghost harts = { outcome_of };
+    ghost harts = { λ f. (outcome_of f).results };
 
     ghost is_stuck = { λ r. false };
 
@@ -51,7 +52,9 @@ impl Findings for Runs {
         harts_text(alloc, &outcome.harts)
     }
 
-    fn harts(outcome: &Found) -> &[HartResult] {
+    fn harts(outcome: &Found) -> &[HartResult]
+        ensures { told result.now ≡ (outcome_of outcome.now).results }
+    {
         &outcome.harts
     }
 

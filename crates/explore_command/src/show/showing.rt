@@ -4,23 +4,23 @@
 ghost use Rattle.std.specs.Prelude.{◌≡◌, ◌⊎◌, ◌<◌, Err, IfErr, IfOk, IfSome, IsNone, OnErr};
 ghost use Rattle.command_files.specs.Faults.{Name};
 ghost use Rattle.command_files.specs.Sizes.{IsOutside};
-ghost use Rattle.explore_command.specs.Exploring.{ComesBeforeScripts, LeavesPart};
+ghost use Rattle.explore_command.specs.Exploring.{ComesBeforeScripts, IsFoundIn, LeavesPart};
 ghost use Rattle.explore_command.specs.Judging.{IsToldBy};
 ghost use Rattle.explore_command.specs.Keeping.{IsScriptFile, SparesOthers};
-ghost use Rattle.explore_command.specs.Showing.{IsElsewhere, IsFirstOf, IsFoundIn, IsShowFault, AreWordsShown, WordRefusals, WordsHave};
+ghost use Rattle.explore_command.specs.Showing.{IsElsewhere, IsFirstOf, IsShowFault, AreWordsShown, WordRefusals, WordsHave};
 ghost use Rattle.explorer.specs.Words.{CanShowEach};
 ghost use Rattle.text_fields.specs.Writing.{Begins};
 
 use crate::exploring::Telling;
 use crate::findings::print;
 use crate::judging::{Judgement, judge};
+use crate::keeping::keep;
 use crate::show::asked::AskedWords;
-use crate::show::keeping::keep;
 use crate::show::words::Shown;
 use command_files::{Fault, Files, Unshown};
 use command_settings::{Explore, Show};
 use elf_loader::Image;
-use explorer::{Exploring, WordExploration, explore_words};
+use explorer::{Exploration, Exploring, explore};
 use machine_types::Config;
 use progress_line::Progress;
 use std::alloc::{AllocError, Global};
@@ -51,7 +51,7 @@ pub fn show_files<'a, F: Files, O: Write, E: Write, P: Progress>(
     ensures judged_first { OnErr result ((E.contents err.new ≡ E.contents err.old) ⊎ WordRefusals (F.held files.old) wanted.now (O.contents out.old) (O.contents out.new)
         (Begins (E.contents err.old) (E.contents err.new))) }
 {
-    let explore = wanted.explore;
+    let asked = wanted.explore;
     if let Some(word) = sought_elsewhere(wanted) {
         let cause = Unshown::Elsewhere;
         return Err(Fault::CannotShow { word, cause });
@@ -61,8 +61,8 @@ pub fn show_files<'a, F: Files, O: Write, E: Write, P: Progress>(
         image,
         allowed,
         targets,
-    } = AskedWords::read(alloc, files, explore, &wanted.words)?;
-    let Ok(exploration) = found_in(alloc, &image, config, &targets.addresses, explore, progress)
+    } = AskedWords::read(alloc, files, asked, &wanted.words)?;
+    let Ok(exploration) = found_in(alloc, &image, config, &targets.addresses, asked, progress)
     else {
         return Err(Fault::OutOfMemory);
     };
@@ -71,8 +71,8 @@ pub fn show_files<'a, F: Files, O: Write, E: Write, P: Progress>(
         exploration,
     };
     print(alloc, &found, out)?;
-    let judgement = judge(alloc, explore, &allowed, &found, err);
-    keep(alloc, files, explore, config, found.exploration)?;
+    let judgement = judge(alloc, asked, &allowed, &found, err);
+    keep(alloc, files, asked, config, &found)?;
     judgement
 }
 
@@ -85,7 +85,7 @@ fn found_in<P: Progress>(
     addresses: &[u32],
     wanted: Explore<'_>,
     progress: &P,
-) -> Result<WordExploration, AllocError>
+) -> Result<Exploration, AllocError>
     requires room { 0 < wanted.states }
     requires words { CanShowEach image.now addresses.now }
     ensures { IfOk result (IsFoundIn image.now config addresses.now wanted.entry.states) }
@@ -95,7 +95,7 @@ fn found_in<P: Progress>(
         limit: wanted.states,
         shortened: wanted.scripts.is_some(),
     };
-    let found = explore_words(alloc, image, config, addresses, exploring, &watch);
+    let found = explore(alloc, image, config, addresses, exploring, &watch);
     progress.end();
     found
 }

@@ -1,15 +1,18 @@
 //! An exploration that shows words of memory, as it is told and judged.
 
-ghost use Rattle.std.specs.Prelude.{◌≡◌, ◌≢◌, is_some, not};
+ghost use Rattle.std.specs.Prelude.{◌≡◌, ◌≢◌, is_some, length, not};
 ghost use Rattle.explore_command.specs.Judging.{is_complete};
-ghost use Rattle.exploration_text.specs.Words.{end_text, words_text};
+ghost use Rattle.explore_command.specs.Keeping.{AreKept, IsScriptOf};
+ghost use Rattle.exploration_text.specs.Words.{end_text, exploration_text};
 ghost use Rattle.state_search.specs.declared.findings.Extent.TheVariants as extent;
-ghost use Rattle.explorer.specs.WordEnds.{ending_of};
+ghost use Rattle.explorer.specs.Ends.{outcome_of};
 ghost use Rattle.flat_model.specs.Shown.{told};
 
 use crate::findings::Findings;
-use exploration_text::{WordName, end_text, words_text_of};
-use explorer::{WordExploration, WordFound};
+use crate::keeping::{Folder, Keepable};
+use command_files::{Fault, Files};
+use exploration_text::{WordName, end_text, text_of};
+use explorer::{Exploration, Found};
 use flat_model::HartResult;
 use state_search::Extent;
 use std::alloc::{AllocError, Global};
@@ -18,19 +21,19 @@ use std::alloc::{AllocError, Global};
 #[derive(Drop)]
 pub(crate) struct Shown<'a> {
     pub(crate) names: Vec<WordName<'a>>,
-    pub(crate) exploration: WordExploration,
+    pub(crate) exploration: Exploration,
 }
 
 impl Findings for Shown<'_> {
-    type Outcome = WordFound;
+    type Outcome = Found;
 
-    ghost text = { λ s. words_text s.names.items s.exploration };
+    ghost text = { λ s. exploration_text s.names.items s.exploration };
 
     ghost outcomes = { λ s. s.exploration.outcomes.items };
 
-    ghost line = { λ s f. end_text s.names.items (ending_of f) };
+    ghost line = { λ s f. end_text s.names.items (outcome_of f) };
 
-    ghost harts = { λ f. (ending_of f).results };
+    ghost harts = { λ f. (outcome_of f).results };
 
     ghost is_stuck = { λ s. is_some s.exploration.stuck };
 
@@ -39,19 +42,19 @@ impl Findings for Shown<'_> {
     ghost IsWhole = { λ s. s.exploration.extent ≢ extent.OutOfMemory };
 
     fn text(&self, alloc: Global) -> Result<Vec<u8>, AllocError> {
-        words_text_of(alloc, &self.names, &self.exploration)
+        text_of(alloc, &self.names, &self.exploration)
     }
 
-    fn outcomes(&self) -> &[WordFound] {
+    fn outcomes(&self) -> &[Found] {
         &self.exploration.outcomes
     }
 
-    fn line(&self, alloc: Global, outcome: &WordFound) -> Result<Vec<u8>, AllocError> {
+    fn line(&self, alloc: Global, outcome: &Found) -> Result<Vec<u8>, AllocError> {
         end_text(alloc, &self.names, &outcome.harts, &outcome.words)
     }
 
-    fn harts(outcome: &WordFound) -> &[HartResult]
-        ensures { told result.now ≡ (ending_of outcome.now).results }
+    fn harts(outcome: &Found) -> &[HartResult]
+        ensures { told result.now ≡ (outcome_of outcome.now).results }
     {
         &outcome.harts
     }
@@ -66,5 +69,17 @@ impl Findings for Shown<'_> {
 
     fn is_whole(&self) -> bool {
         self.exploration.extent != Extent::OutOfMemory
+    }
+}
+
+impl Keepable for Shown<'_> {
+    ghost HasTexts = { λ s. Unit {0} };
+
+    ghost AreKept = { λ s left config kib folder. AreKept left config kib folder s.exploration };
+
+    ghost IsFileOf = { λ s. IsScriptOf (length s.exploration.outcomes.items) s.exploration.stuck };
+
+    fn keep_in<'a, F: Files>(&self, folder: Folder<'a>, files: &mut F) -> Result<(), Fault<'a>> {
+        folder.keep(files, &self.exploration)
     }
 }

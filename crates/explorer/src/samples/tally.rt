@@ -69,6 +69,7 @@ impl Tally {
         }
         let end = Found {
             harts: results,
+            words: Vec::new(program.alloc),
             script: Realisation::Events(events),
         };
         self.count_end(program, end)
@@ -146,7 +147,11 @@ fn kept(program: &Program<'_>, end: Found, is_new: bool) -> Found
     ensures reached { IsRealEnd program.now.image.now program.now.config result }
     ensures outcome { outcome_of result ≡ outcome_of end }
 {
-    let Found { harts, script } = end;
+    let Found {
+        harts,
+        words,
+        script,
+    } = end;
     let script = match script {
         Realisation::Events(events) if is_new => {
             let goal = HartResults { harts: &harts };
@@ -154,5 +159,9 @@ fn kept(program: &Program<'_>, end: Found, is_new: bool) -> Found
         }
         script => script,
     };
-    Found { harts, script }
+    Found {
+        harts,
+        words,
+        script,
+    }
 }
