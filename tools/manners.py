@@ -212,6 +212,8 @@ def main():
              ["rvtl: /dev/full: cannot write", "note: no space is left"])
         ends("a name that steers a terminal", [*read_script, "\x1b[2J\n"], 1,
              ["rvtl: \\u{1b}[2J\\n: cannot read", "note: there is no such file or folder"])
+        ends("a program without an end", [rvtl, "explore", "/dev/zero"], 1,
+             ["rvtl: /dev/zero: cannot read", "note: it has more than 268435456 bytes, and no more is read"])
         refused_programs(rvtl, folder)
         interrupted(rvtl, folder)
         fifo = os.path.join(folder, "fifo")

@@ -6,32 +6,35 @@ ghost use Rattle.std.specs.List.{list_any};
 ghost use Rattle.text_fields.specs.Writing.{Writes};
 ghost use Rattle.log_text.specs.Verdicts.{verdict_text};
 ghost use Rattle.check_command.specs.Messages.{IsLogCutOff, IsLogFault, IsLogJudged, memory_told};
+ghost use Rattle.message_judge.specs.Laws.{IsVerdict};
 ghost use Rattle.command_files.specs.Faults.{LeavesAtFault};
 
 use crate::reading::whole_trace;
 use command_files::{Escaped, Fault, Files, remark, text_in};
 use elf_loader::Image;
 use log_text::{Contradiction, Objection, Unanswered, end_text, line_of_message, put_verdict};
-use message_judge::{MessageBreach, MessageVerdict, judge_messages};
+use message_judge::{MessageBreach, MessageVerdict, judge_ended, judge_messages};
 use open_questions::left_open;
-use std::alloc::Global;
+use std::alloc::{AllocError, Global};
 use std::io::{self, Write};
 use trace_recorder::{Logged, Trace};
 
 /// Reads a trace, or one that ends behind its messages, judges its log by the rules of the lawful log and of the
 /// coherent log, and prints the verdict on `out`. Memory begins as the trace's I lines say; where there is none with
-/// bytes that aren't known. Where a question of a lawful log has no answer, a remark tells. Where the log isn't lawful,
-/// the line of the message that breaks a rule, and what stood against it, go to `err`.
+/// bytes that aren't known. Where the log has ended, each question has to have its answer too; where it may go on, a
+/// remark tells of those that have none. Where the log isn't lawful, the line of the message that breaks a rule, and what stood
+/// against it, go to `err`.
 pub fn check_messages<'a, F: Files, O: Write, E: Write>(
     alloc: Global,
     files: &mut F,
     file: &'a str,
+    ended: bool,
     out: &mut O,
     err: &mut E,
 ) -> Result<MessageVerdict, Fault<'a>>
-    ensures judged { IfOk result (λ verdict. IsLogJudged (F.held files.old) file.entry.now verdict (O.contents out.old) (O.contents out.new)) }
+    ensures judged { IfOk result (λ verdict. IsLogJudged (F.held files.old) file.entry.now ended verdict (O.contents out.old) (O.contents out.new)) }
     ensures unfinished { IfErr result (λ fault. LeavesAtFault fault (O.contents out.old) (O.contents out.new)
-        (IsLogCutOff (F.held files.old) file.entry.now (O.contents out.old) (O.contents out.new))) }
+        (IsLogCutOff (F.held files.old) file.entry.now ended (O.contents out.old) (O.contents out.new))) }
     ensures told { IfErr result (IsLogFault (F.held files.old) file.entry) }
     ensures spared { F.held files.new ≡ F.held files.old }
     ensures quiet { IfOk result (λ verdict. verdict ≡ MessageVerdict.Lawful → E.contents err.new ≡ E.contents err.old) }
@@ -41,7 +44,7 @@ pub fn check_messages<'a, F: Files, O: Write, E: Write>(
         return Err(Fault::OutOfMemory);
     };
     let trace = whole_trace(alloc, files, file, bytes.as_slice())?;
-    let Ok(verdict) = judge_messages(alloc, memory_at_start(&trace), trace.log()) else {
+    let Ok(verdict) = judged(alloc, &trace, ended) else {
         return Err(Fault::OutOfMemory);
     };
     remark_judged(alloc, files, bytes.as_slice(), trace.log(), verdict);
@@ -51,6 +54,18 @@ pub fn check_messages<'a, F: Files, O: Write, E: Write>(
     // Standard error has no other place to tell that it takes no more.
     let _ = object(file, bytes.as_slice(), &trace, verdict, err);
     Ok(verdict)
+}
+
+/// The verdict on a trace's log, which has ended or may go on.
+fn judged(alloc: Global, trace: &Trace, ended: bool) -> Result<MessageVerdict, AllocError>
+    ensures { IfOk result (IsVerdict ended (memory_told trace.now.history.image) trace.now.history.log) }
+{
+    let memory = memory_at_start(trace);
+    if ended {
+        judge_ended(alloc, memory, trace.log())
+    } else {
+        judge_messages(alloc, memory, trace.log())
+    }
 }
 
 /// Remarks that there was nothing to judge, or which questions of a lawful log have no answer.
@@ -88,14 +103,18 @@ fn remark_open<F: Files>(alloc: Global, files: &mut F, bytes: &[u8], log: &[Logg
     };
     let line = line_of_message(bytes, open.first).unwrap_or(0);
     if open.count == 1 {
-        remark(alloc, files, format_args!("line {line}: {question}"));
+        remark(
+            alloc,
+            files,
+            format_args!("line {line}: {question} (with --ended this is a fault)"),
+        );
     } else {
-        let count = open.count;
         remark(
             alloc,
             files,
             format_args!(
-                "line {line}: {question}, the first of {count} questions without an answer"
+                "line {line}: {question}, the first of {} questions without an answer (with --ended this is a fault)",
+                open.count
             ),
         );
     }

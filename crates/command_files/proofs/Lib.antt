@@ -4,4 +4,5 @@ pub mod Limits
 pub mod NoScript
 pub mod Replays
 pub mod Unread
+pub mod Whole
 pub mod Written

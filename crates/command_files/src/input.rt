@@ -26,43 +26,18 @@ impl<'r, R, F: Files + Drop> WithInput<'r, R, F> {
     }
 }
 
-/// How many bytes a file may have: 4,000,000 events leave a trace of less than 2 GiB.
-const MOST: u64 = 1 << 31;
-
-/// A file, or standard input, up to as many bytes as a file may have.
+/// A file, or standard input.
 #[derive(Drop)]
-pub struct Source<F: Drop, I: Drop> {
-    kind: Kind<F, I>,
-    left: u64,
-}
-
-#[derive(Drop)]
-enum Kind<F: Drop, I: Drop> {
+pub enum Source<F: Drop, I: Drop> {
     File(F),
     Input(I),
 }
 
-impl<F: Drop, I: Drop> Source<F, I> {
-    fn new(kind: Kind<F, I>) -> Source<F, I> {
-        Source { kind, left: MOST }
-    }
-}
-
 impl<F: Read + Drop, I: Read + Drop> Read for Source<F, I> {
     fn read(&mut self, buf: &mut [u8]) -> io::Result<usize> {
-        let count = match &mut self.kind {
-            Kind::File(file) => file.read(buf)?,
-            Kind::Input(input) => input.read(buf)?,
-        };
-        match self.left.checked_sub(count as u64) {
-            Some(left) => {
-                self.left = left;
-                Ok(count)
-            }
-            None => {
-                let message = "it has more than 2 GiB, and no more is read";
-                Err(io::Error::new(ErrorKind::InvalidData, message))
-            }
+        match self {
+            Source::File(file) => file.read(buf),
+            Source::Input(input) => input.read(buf),
         }
     }
 }
@@ -72,14 +47,14 @@ impl<R: Input, F: Files + Drop> Files for WithInput<'_, R, F> {
 
     fn open(&mut self, name: &str) -> io::Result<Source<F::Reader, R::Reader>> {
         if name != NAME {
-            return Ok(Source::new(Kind::File(self.files.open(name)?)));
+            return Ok(Source::File(self.files.open(name)?));
         }
         if self.has_read_input {
             let message = "standard input is read once";
             return Err(io::Error::new(ErrorKind::InvalidInput, message));
         }
         self.has_read_input = true;
-        Ok(Source::new(Kind::Input(self.rt.reader())))
+        Ok(Source::Input(self.rt.reader()))
     }
 
     fn are_same(&mut self, one: &str, other: &str) -> bool {

@@ -21,6 +21,13 @@ use trace_text::{Script, TextCause, TextCode, TextError, read_script};
 /// How many bytes are read of a file before the others: far more than any text's first line has.
 const FIRST: usize = 65_536;
 
+/// How many bytes a program's file may have, or one of what is allowed: memory has 1 MiB, so that this leaves room for names
+/// and for what a debugger wants.
+const MOST: u64 = 1 << 28;
+
+/// How many bytes a script or a trace may have: 4,000,000 events leave a trace of less than 2 GiB.
+const MOST_OF_TEXT: u64 = 1 << 31;
+
 /// A file that is open, and the bytes that were read of it.
 #[derive(Drop)]
 struct Opened<R: Read + Drop> {
@@ -65,29 +72,44 @@ fn open<'a, F: Files>(
     }
 }
 
-/// The bytes of a file of which the first were read.
+/// The bytes of a file of which the first were read. Where it has more than so many, no more than these and one byte are
+/// read.
 fn rest<'a, F: Files>(
     alloc: Global,
     files: &mut F,
     name: &'a str,
     opened: Opened<F::Reader>,
+    most: u64,
 ) -> Result<Vec<u8>, Fault<'a>>
     requires { Consumes (F.held files.old name.now) (F.Reader.remaining opened.reader) opened.bytes.items }
     ensures fault { IfErr result (IsReadFault name.entry) }
     ensures bytes { IfOk result (λ bytes. HoldsBytes (F.held files.old) name.entry.now bytes.items) }
     ensures stays { F.held files.new ≡ F.held files.old }
 {
-    let Opened {
-        mut bytes,
-        mut reader,
-    } = opened;
+    let Opened { mut bytes, reader } = opened;
+    let room = most.saturating_add(1);
+    let mut reader = reader.take(room.saturating_sub(bytes.len() as u64));
     match reader.read_to_end(&mut bytes) {
+        Ok(_) if bytes.len() as u64 >= room => Err(too_long(alloc, files, name, most)),
         Ok(_) => Ok(bytes),
         Err(error) => Err(unread(alloc, files, name, error)),
     }
 }
 
-/// The bytes of a file.
+/// A file has more than so many bytes, and that is remarked.
+fn too_long<'a, F: Files>(alloc: Global, files: &mut F, name: &'a str, most: u64) -> Fault<'a>
+    ensures fault { IsReadFault name.entry result }
+    ensures stays { F.held files.new ≡ F.held files.old }
+{
+    remark(
+        alloc,
+        files,
+        format_args!("it has more than {most} bytes, and no more is read"),
+    );
+    Fault::CannotRead { file: name }
+}
+
+/// The bytes of a file of `MOST` bytes at most.
 pub fn contents<'a, F: Files>(
     alloc: Global,
     files: &mut F,
@@ -98,11 +120,11 @@ pub fn contents<'a, F: Files>(
     ensures stays { F.held files.new ≡ F.held files.old }
 {
     let opened = open(alloc, files, name)?;
-    rest(alloc, files, name, opened)
+    rest(alloc, files, name, opened, MOST)
 }
 
-/// The bytes of a file that has to be a text. Where its first line is longer than that of any text, no more
-/// of the file is read.
+/// The bytes of a file that has to be a text, of `MOST_OF_TEXT` bytes at most. Where its first line is longer than that of
+/// any text, no more of the file is read.
 pub fn text_in<'a, F: Files>(
     alloc: Global,
     files: &mut F,
@@ -122,7 +144,7 @@ pub fn text_in<'a, F: Files>(
         };
         return Err(Fault::Text { file: name, error });
     }
-    rest(alloc, files, name, opened)
+    rest(alloc, files, name, opened, MOST_OF_TEXT)
 }
 
 /// A file could not be opened or read, and why is remarked.

@@ -45,19 +45,19 @@ strictness_of true = Strict
 
 -- what a check judges is legal: the messages of the trace, or its order
 abbrev pub IsClean : (of_messages : Bool) → Contents → Judging → Option (List ℕ) → Option (List ℕ) → Type 0
-IsClean true held check old new = IsLogJudged held check.trace.now Lawful old new
+IsClean true held check old new = IsLogJudged held check.trace.now check.ended Lawful old new
 IsClean false held check old new = IsVerdictTold held check.trace.now check.model Legal old new
 
 -- it is not, and what shows it was printed
 abbrev pub IsUnclean : (of_messages : Bool) → Contents → Judging → Option (List ℕ) → Option (List ℕ) → Type 0
 IsUnclean true held check old new =
-    (breach : MessageBreach) × (index : ℕ) × IsLogJudged held check.trace.now (Unlawful breach index) old new
+    (breach : MessageBreach) × (index : ℕ) × IsLogJudged held check.trace.now check.ended (Unlawful breach index) old new
 IsUnclean false held check old new =
     (code : Code) × (a : OpId) × (b : OpId) × IsVerdictTold held check.trace.now check.model (Fault code a b) old new
 
 -- no more than a beginning of the verdict went out
 abbrev pub IsCheckBroken : (of_messages : Bool) → Contents → Judging → Option (List ℕ) → Option (List ℕ) → Type 0
-IsCheckBroken true held check old new = IsLogCutOff held check.trace.now old new
+IsCheckBroken true held check old new = IsLogCutOff held check.trace.now check.ended old new
 IsCheckBroken false held check old new = IsVerdictCutOff held check.trace.now check.model old new
 
 abbrev pub CheckCame : Judgement → (of_messages : Bool) → Contents → Judging → Option (List ℕ) → Option (List ℕ) → Type 0

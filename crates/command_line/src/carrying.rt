@@ -168,7 +168,7 @@ fn checked<'a, F: Files, O: Write, E: Write>(
     ensures spared { F.held files.new ≡ F.held files.old }
 {
     if wanted.messages {
-        return match check_messages(alloc, files, wanted.trace, out, err)? {
+        return match check_messages(alloc, files, wanted.trace, wanted.ended, out, err)? {
             MessageVerdict::Lawful => Ok(Judgement::Allowed),
             MessageVerdict::Unlawful {
                 breach: _,

@@ -110,6 +110,7 @@ pub record IsExploreMeant (rows : List Row) (explore : Explore) : Type 0 where
 -- the arguments of `check` have these texts
 pub record IsCheckMeant (rows : List Row) (check : Check) : Type 0 where
   pub messages : IsFlag (codes "messages") rows check.messages
+  pub ended : IsFlag (codes "ended") rows check.ended
   pub model : IsModel rows check.model
   pub trace : IsText (codes "TRACE") rows check.trace.now
 

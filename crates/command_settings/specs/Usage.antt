@@ -155,9 +155,9 @@ abbrev pub explore_arguments : List Argument
 explore_arguments =
     flag (codes "raw") ∷ machine_arguments ++ search_arguments ++ sample_arguments ++ window_arguments ++ repeated (codes "show") ∷ file (codes "IMAGE") ∷ []
 
--- `[--messages] [--model NAME] TRACE`
+-- `[--messages] [--ended] [--model NAME] TRACE`
 abbrev pub check_arguments : List Argument
-check_arguments = flag (codes "messages") ∷ model ∷ file (codes "TRACE") ∷ []
+check_arguments = flag (codes "messages") ∷ flag (codes "ended") ∷ model ∷ file (codes "TRACE") ∷ []
 
 -- ---- the subcommands
 

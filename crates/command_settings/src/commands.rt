@@ -139,6 +139,7 @@ fn check_command<'a>(alloc: Global, models: &'a [&'a str]) -> Result<Command<'a>
         "Judges the order in which a trace's memory operations were performed, or its messages";
     let command = described(alloc, "check", about, CHECK_HELP);
     let command = add_arg(Ok(command), messages(alloc));
+    let command = add_arg(command, ended(alloc));
     let command = add_arg(command, judged_model(alloc, models));
     add_arg(command, trace(alloc))
 }
@@ -417,6 +418,17 @@ fn messages<'a>(alloc: Global) -> Arg<'a>
         alloc,
         "messages",
         "judge the trace's messages, and not its order",
+    )
+}
+
+fn ended<'a>(alloc: Global) -> Arg<'a>
+    ensures rule { rule_of result ≡ flag_rule (codes "ended") }
+    ensures local { result.global ≡ false }
+{
+    flag(
+        alloc,
+        "ended",
+        "with --messages, also ask that each question has its answer by the end",
     )
 }
 

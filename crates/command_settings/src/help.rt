@@ -138,7 +138,7 @@ pub(crate) const SCRIPTS_HELP: &str =
     "the folder, which has to exist, to write outcome-1.script .. and stuck.script into, each for replay; and outcome-1.trace .., each for check, of outcomes that this machine wasn't found to show. Other files there stay, also those of an earlier search";
 
 pub(crate) const ALLOW_HELP: &str =
-    "the file with the allowed outcomes, a line each as printed, with or without its number; where another is found its number is told and the status is 3";
+    "the file with the allowed outcomes, a line each as printed, with or without its number, and with a * for any number in it; where another is found its number is told and the status is 3";
 
 pub(crate) const FAIL_ON_HELP: &str =
     "what the search may not come to, with a comma between each two: failure (a hart stopped in an outcome), stuck (from some state no schedule ends), incomplete (not all was searched); where it comes to one it is told and the status is 3";
@@ -165,6 +165,7 @@ the first has to be performed before the second:
 
 With --messages the trace may end behind its M lines, and need not come from rvtl; --model says nothing then.
 It prints lawful, or with status 3 unlawful, a rule and the number of the message, from 0, that breaks it.
+Where a question has no answer by the end, a note tells; with --ended the first such question is unlawful.
 A message is M s CHANNEL HART .. where it is sent, M t CHANNEL HART .. where it is taken, with behind it
   on A  AcquireBlock LINE NtoB, NtoT or BtoT
   on B  ProbeBlock LINE toT, toB or toN

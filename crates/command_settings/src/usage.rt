@@ -16,6 +16,9 @@ use machine_types::MemoryModel;
 use std::alloc::{AllocError, Global};
 use std::convert::AsStr;
 
+/// How an exploration is asked for.
+const EXPLORE_USAGE: &str = "rvtl explore [OPTIONS] <IMAGE>";
+
 /// What the words ask for, of which the first is the program's name.
 pub fn settings<'a, S: AsStr>(alloc: Global, words: &'a [S]) -> Result<Settings<'a>, SettingsError>
     ensures named { IfOk result (IsNamed (map S.text words.entry.now)) }
@@ -42,7 +45,7 @@ fn settings_by<'a, S: AsStr>(
     match settings_of(&matches) {
         Some(settings) => {
             let settings = with_shown(alloc, &matches, settings)?;
-            agreeing(command, settings)
+            agreeing(alloc, settings)
         }
         // The usage asks for a subcommand and its files, so that the parse has refused such words.
         None => Err(without_subcommand(command)),
@@ -58,9 +61,9 @@ fn without_subcommand(command: &mut Command<'_>) -> SettingsError {
     }
 }
 
-/// The settings, unless they don't go together.
+/// The settings, unless they don't go together: only those of an exploration may not.
 fn agreeing<'a>(
-    command: &mut Command<'a>,
+    alloc: Global,
     settings: Settings<'a>,
 ) -> Result<Settings<'a>, SettingsError>
     ensures same { IfOk result (λ agreed. agreed ≡ settings.entry) }
@@ -68,7 +71,8 @@ fn agreeing<'a>(
     ensures told { IfErr result (TellsConflict settings.entry) }
 {
     if let Some(conflict) = settings.conflict() {
-        let error = command.error(ErrorKind::ArgumentConflict, conflict)?;
+        let mut explore = Command::new(alloc, "explore").override_usage(EXPLORE_USAGE);
+        let error = explore.error(ErrorKind::ArgumentConflict, conflict)?;
         return Err(SettingsError::Usage(error));
     }
     Ok(settings)
@@ -230,6 +234,7 @@ fn check_of<'a>(matches: &ArgMatches<'a>) -> Option<Check<'a>>
     let trace = matches.get_str("TRACE")?;
     Some(Check {
         messages: matches.get_flag("messages"),
+        ended: matches.get_flag("ended"),
         model,
         trace,
     })

@@ -10,7 +10,7 @@ use thiserror::Error;
 
 /// What to do where random runs are to be made, and the memory model searched.
 const TWOFOLD: &str =
-    "--sample makes random runs of the machine, --architecture searches the memory model: leave out one of them";
+    "--sample makes random runs of the machine, and goes with --seed; --architecture searches the memory model, and goes with --window and --show: leave out one of them";
 
 /// What to do where a search is to fail on what it doesn't look for.
 const BLIND: &str =
@@ -188,6 +188,8 @@ pub struct Show<'a> {
 pub struct Check<'a> {
     /// Judge the messages in place of the order.
     pub messages: bool,
+    /// Each question among the messages has its answer by the end.
+    pub ended: bool,
     /// Under which the order is judged.
     pub model: MemoryModel,
     pub trace: &'a str,

@@ -1,7 +1,6 @@
 -- What a symbol table names (System V Application Binary Interface, "Object Files": "Symbol Table",
 -- "String Table").
-use Rattle.std.specs.Prelude.{ℕ, ◌+◌, ◌*◌, ◌/◌, ◌%◌, ◌==◌, nat_eq, nat_le, nat_lt, Bool, true, false, not, ◌&&◌, if◌then◌else◌, List, [], ◌∷◌, length, slice_index, take, drop, position, Option, Some, None, option_map, option_and_then}
-use Rattle.std.specs.Char.{is_ascii_graphic}
+use Rattle.std.specs.Prelude.{ℕ, ◌*◌, ◌/◌, ◌%◌, ◌==◌, nat_eq, nat_le, nat_lt, Bool, not, ◌&&◌, if◌then◌else◌, List, [], ◌∷◌, length, slice_index, take, drop, position, Option, Some, None, option_map, option_and_then}
 use Rattle.std.specs.List.{filter_map, list_all, range_with_len, starts_with}
 use Rattle.elf_symbols.specs.Named.{Named}
 use Rattle.elf_loader.specs.Elf.{half_at, long_at}
@@ -10,16 +9,20 @@ use Rattle.elf_loader.specs.Elf.{half_at, long_at}
 abbrev pub local_start : List ℕ
 local_start = 46 ∷ 76 ∷ []
 
--- printable, and none that begins with $, as mapping symbols ($x) do, which mark what stands there instead of naming it, or with .L, as an assembler's own labels do (.Lpcrel_hi0)
+-- no control byte: a space, a printable character of ASCII, or a byte of a longer character of UTF-8
+abbrev pub is_shown : ℕ → Bool
+is_shown byte = nat_le 32 byte && not (byte == 127)
+
+-- of no control bytes, and none that begins with $, as mapping symbols ($x) do, which mark what stands there instead of naming it, or with .L, as an assembler's own labels do (.Lpcrel_hi0)
 abbrev pub is_told : List ℕ → Bool
-is_told name = nat_lt 0 (length name) && not (slice_index name 0 == 36) && not (starts_with nat_eq name local_start) && list_all is_ascii_graphic name
+is_told name = nat_lt 0 (length name) && not (slice_index name 0 == 36) && not (starts_with nat_eq name local_start) && list_all is_shown name
 
 abbrev pub told : List ℕ → Option (List ℕ)
 told name = if is_told name then Some name else None
 
--- the string that begins at this place of a string table, up to the zero behind it: of at most 56 bytes, where it can be told
+-- the string that begins at this place of a string table, up to the zero behind it: of at most 4,096 bytes, where it can be told
 abbrev pub name_at : List ℕ → ℕ → Option (List ℕ)
-name_at strings at = option_and_then (λ n. told (take n (drop at strings))) (position (λ b. b == 0) (take 57 (drop at strings)))
+name_at strings at = option_and_then (λ n. told (take n (drop at strings))) (position (λ b. b == 0) (take 4097 (drop at strings)))
 
 abbrev pub st_name : List ℕ → ℕ
 st_name entry = long_at entry 0

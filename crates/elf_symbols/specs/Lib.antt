@@ -3,5 +3,6 @@ pub mod Lookups
 pub mod Named
 pub mod Order
 pub mod Seen
+pub mod Short
 pub mod Symbols
 pub mod Tables

@@ -1,9 +1,10 @@
 -- What names tell of an address, and an address of a name.
-use Rattle.std.specs.Prelude.{ℕ, ◌-◌, nat_eq, nat_le, if◌then◌else◌, List, [], ◌∷◌, find, Option, Some, None, option_map}
+use Rattle.std.specs.Prelude.{ℕ, ◌-◌, nat_le, if◌then◌else◌, List, [], ◌∷◌, find, Option, Some, None, option_map}
 use Rattle.std.specs.Str.{bytes_eq}
 use Rattle.elf_symbols.specs.Named.{Named}
+use Rattle.elf_symbols.specs.Short.{short_name}
 
--- a name, and how many bytes behind its address
+-- a name as it is told, and how many bytes behind its address
 pub record Near : Type 0 where
   pub name : List ℕ
   pub offset : ℕ
@@ -18,7 +19,7 @@ last_below [] address = None
 last_below (symbol ∷ rest) address = or_this (last_below rest address) address symbol
 
 abbrev pub near : ℕ → Named → Near
-near address symbol = record { name = symbol.name; offset = address - symbol.address }
+near address symbol = record { name = short_name symbol.name; offset = address - symbol.address }
 
 abbrev pub nearest : List Named → ℕ → Option Near
 nearest symbols address = option_map (near address) (last_below symbols address)

@@ -1,6 +1,6 @@
 -- Where an ELF file for 32-bit machines has its symbols (System V Application Binary Interface, "Object
 -- Files": "ELF Header", "Sections").
-use Rattle.std.specs.Prelude.{ℕ, ◌+◌, ◌*◌, ◌==◌, nat_eq, nat_le, nat_lt, Bool, ◌&&◌, if◌then◌else◌, List, [], ◌∷◌, length, slice_index, take, drop, find, map, Option, Some, None, option_and_then}
+use Rattle.std.specs.Prelude.{ℕ, ◌+◌, ◌*◌, ◌==◌, nat_eq, nat_le, nat_lt, Bool, ◌&&◌, if◌then◌else◌, List, [], ◌∷◌, length, take, drop, find, map, Option, Some, None, option_and_then}
 use Rattle.std.specs.List.{range_with_len, starts_with}
 use Rattle.elf_loader.specs.Elf.{half_at, long_at}
 use Rattle.elf_symbols.specs.declared.section.Section.{Section}

@@ -15,7 +15,7 @@ use std::alloc::{AllocError, Global};
 use std::marker::Model;
 
 /// The names of addresses, lowest address first, those of one address in the order of the file's table.
-/// Each has 1 to 56 printable characters of ASCII.
+/// Each has 1 to 4,096 bytes, none of them a control one.
 #[derive(Debug, Drop)]
 pub struct Symbols {
     list: Vec<Symbol>,
@@ -33,7 +33,7 @@ impl Model for Symbols {
     ghost invariant = { λ symbols. IsNonDecreasingBy (λ (named : Named). named.address) symbols.list.items };
 }
 
-/// A name, and how many bytes behind its address an address lies.
+/// A name as a line tells it, of at most 56 bytes, and how many bytes behind its address an address lies.
 #[derive(Clone, Copy, Debug)]
 pub struct Place<'a> {
     pub name: &'a [u8],
@@ -116,7 +116,7 @@ impl Symbols {
     {
         let symbol = last_below(&self.list, address)?;
         Some(Place {
-            name: symbol.name(),
+            name: symbol.short_name(),
             offset: address - symbol.address(),
         })
     }

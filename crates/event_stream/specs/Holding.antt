@@ -1,9 +1,10 @@
--- What a machine holds, in lines: X a register that isn't zero, B a store that waits, L a reservation, C a copy, A an outstanding Acquire, U an unanswered Release, Q a message that waits without its data.
+-- What a machine holds, in lines: X a register that isn't zero, B a store that waits, L a reservation, C a copy with its bytes, A an outstanding Acquire, U an unanswered Release, Q a message that waits without its data.
 use Rattle.std.specs.Prelude.{ℕ, ◌==◌, Bool, true, false, if◌then◌else◌, List, [], ◌∷◌, ◌++◌, length, Option, Some, None, codes, slice_index}
 use Rattle.std.specs.FinSet as set
 use Rattle.std.specs.List.{flat_map, range_with_len}
 use Rattle.assembly.specs.Operands.{register}
 use Rattle.client_cache.specs.Cache.{Cache, copy_at}
+use Rattle.client_cache.specs.Held.{bytes_in}
 use Rattle.client_cache.specs.declared.held.Held.{Held}
 use Rattle.client_cache.specs.declared.held.Held.TheVariants.{Branch, Trunk}
 use Rattle.hart.specs.declared.state.Hart.{Hart}
@@ -11,8 +12,9 @@ use Rattle.machine_model.specs.Views.{State, node_at}
 use Rattle.store_buffer.specs.ByteMask.{is_marked}
 use Rattle.store_buffer.specs.Groups.{Groups, groups_of}
 use Rattle.store_buffer.specs.declared.entry.Entry.{Entry}
-use Rattle.text_fields.specs.Fields.{hex_byte, number, numbered, word}
+use Rattle.text_fields.specs.Fields.{hex, hex_byte, number, numbered, word}
 use Rattle.tilelink_channels.specs.Queues.{Waiting, queue_of}
+use Rattle.tl_types.specs.Line.{bytes_of}
 use Rattle.tl_types.specs.declared.message.Channel.{Channel}
 use Rattle.tl_types.specs.declared.message.Channel.TheVariants as channel
 use Rattle.tl_types.specs.declared.message.Msg.{Msg}
@@ -59,13 +61,13 @@ reservation_line h None = []
 reservation_line h (Some a) = address_line (codes "L ") h a
 
 abbrev pub held_name : Held → List ℕ
-held_name (Branch bytes) = codes " Branch\n"
-held_name (Trunk false bytes) = codes " Trunk\n"
-held_name (Trunk true bytes) = codes " dirty Trunk\n"
+held_name (Branch bytes) = codes " Branch "
+held_name (Trunk false bytes) = codes " Trunk "
+held_name (Trunk true bytes) = codes " dirty Trunk "
 
 abbrev pub copy_line : ℕ → ℕ → Option Held → List ℕ
 copy_line h line None = []
-copy_line h line (Some held) = codes "C " ++ (number 32 h ++ (word line ++ held_name held))
+copy_line h line (Some held) = codes "C " ++ (number 32 h ++ (word line ++ (held_name held ++ (hex (bytes_of (bytes_in held)) ++ 10 ∷ []))))
 
 abbrev pub if_so : Bool → List ℕ → List ℕ
 if_so true line = line

@@ -5,7 +5,9 @@ ghost use Rattle.event_stream.specs.Holding as holding;
 ghost use Rattle.machine_types.specs.declared.limits.TheConstants.{MAX_HARTS};
 ghost use Rattle.machine_model.specs.Views.{node_at};
 ghost use Rattle.text_fields.specs.Pages.{HasLineRoom, Spells, size};
+ghost use Rattle.text_fields.specs.Fields.{hex};
 ghost use Rattle.tilelink_channels.specs.Queues.{queue_of};
+ghost use Rattle.tl_types.specs.Line.{bytes_of};
 ghost use Rattle.trace_text.specs.Words as words;
 
 use crate::waits::{line_address, size_of};
@@ -19,7 +21,7 @@ use std::io::{Result, Write};
 use store_buffer::{Entry, StoreBuffer};
 use text_fields::Page;
 use tilelink_channels::Queues;
-use tl_types::{Channel, Msg};
+use tl_types::{Channel, LineData, Msg};
 use trace_text::spell_message;
 
 /// A name with a number.
@@ -129,10 +131,10 @@ fn put_buffer<W: Write>(page: &mut Page, out: &mut W, hart: u8, buffer: &StoreBu
 
 /// A letter, a hart and an address.
 fn spell_address_line(page: &mut Page, letter: &[u8], hart: u8, address: u32)
-    requires room { length page.old + 40 ≤ size }
+    requires room { length page.old + 34 ≤ size }
     requires short { length letter.now ≤ 2 }
     ensures value { page.new ≡ page.old ++ holding.address_line letter.now hart address }
-    ensures len { length page.new ≤ length page.old + 40 }
+    ensures len { length page.new ≤ length page.old + 34 }
 {
     page.text(letter);
     page.number(hart as u64, b' ');
@@ -167,30 +169,44 @@ fn held_name(held: &Held) -> &'static [u8]
     ensures len { length result.now ≤ 13 }
 {
     match held {
-        Held::Branch(_) => b" Branch\n",
-        Held::Trunk { dirty: false, .. } => b" Trunk\n",
-        Held::Trunk { dirty: true, .. } => b" dirty Trunk\n",
+        Held::Branch(_) => b" Branch ",
+        Held::Trunk { dirty: false, .. } => b" Trunk ",
+        Held::Trunk { dirty: true, .. } => b" dirty Trunk ",
+    }
+}
+
+/// A line's bytes.
+pub(crate) fn spell_bytes(page: &mut Page, bytes: &LineData)
+    requires { length page.old + 128 ≤ size }
+    ensures value { page.new ≡ page.old ++ hex (bytes_of bytes.now) }
+    ensures len { length page.new ≤ length page.old + 128 }
+{
+    match bytes {
+        LineData::Bytes16(bytes) => page.hex(bytes),
+        LineData::Bytes64(bytes) => page.hex(bytes),
     }
 }
 
 fn spell_copy(page: &mut Page, hart: u8, line: u32, copy: Option<Held>)
-    requires { length page.old + 50 ≤ size }
+    requires { length page.old + 175 ≤ size }
     ensures value { page.new ≡ page.old ++ holding.copy_line hart line copy }
-    ensures len { length page.new ≤ length page.old + 50 }
+    ensures len { length page.new ≤ length page.old + 175 }
 {
     if let Some(held) = copy {
         page.text(b"C ");
         page.number(hart as u64, b' ');
         page.word(line);
         page.text(held_name(&held));
+        spell_bytes(page, &held.bytes());
+        page.text(b"\n");
     }
 }
 
 fn spell_if(page: &mut Page, is_so: bool, letter: &[u8], hart: u8, line: u32)
-    requires room { length page.old + 40 ≤ size }
+    requires room { length page.old + 34 ≤ size }
     requires short { length letter.now ≤ 2 }
     ensures value { page.new ≡ page.old ++ holding.if_so is_so (holding.address_line letter.now hart line) }
-    ensures len { length page.new ≤ length page.old + 40 }
+    ensures len { length page.new ≤ length page.old + 34 }
 {
     if is_so {
         spell_address_line(page, letter, hart, line);
@@ -215,7 +231,7 @@ fn spell_line_at(page: &mut Page, machine: &Machine, hart: u8, cache: &ClientCac
     spell_line(page, hart, cache, line_address(size_of(machine), number));
 }
 
-/// The copies, and the outstanding Acquires and unanswered Releases, by line.
+/// The copies with their bytes, and the outstanding Acquires and unanswered Releases, by line.
 fn put_cache<W: Write>(
     page: &mut Page,
     out: &mut W,

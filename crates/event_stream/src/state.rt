@@ -3,12 +3,11 @@ ghost use Rattle.std.specs.Prelude.{◌≡◌, ◌+◌, ◌<◌, ◌≤◌, ◌/
 ghost use Rattle.coherent_machine.specs.Machine.{IsReached};
 ghost use Rattle.event_stream.specs.States as states;
 ghost use Rattle.machine_model.specs.Ready.{line_count};
-ghost use Rattle.text_fields.specs.Fields.{hex};
-ghost use Rattle.text_fields.specs.Pages.{HasLineRoom, Spells, size};
+ghost use Rattle.text_fields.specs.Pages.{HasLineRoom, Spells};
 ghost use Rattle.text_fields.specs.Writing.{Writes};
 ghost use Rattle.tl_types.specs.Line.{bytes_of, length_of};
 
-use crate::holding::put_held;
+use crate::holding::{put_held, spell_bytes};
 use crate::noting::put_noted;
 use crate::waits::{line_address, size_of};
 use coherent_machine::Machine;
@@ -27,17 +26,6 @@ fn piece(size: LineSize, number: u32, bytes: &[u8]) -> &[u8]
     match size {
         LineSize::Bytes16 => &bytes[start * 16..start * 16 + 16],
         LineSize::Bytes64 => &bytes[start * 64..start * 64 + 64],
-    }
-}
-
-fn spell_bytes(page: &mut Page, bytes: &LineData)
-    requires { length page.old + 128 ≤ size }
-    ensures value { page.new ≡ page.old ++ hex (bytes_of bytes.now) }
-    ensures len { length page.new ≤ length page.old + 128 }
-{
-    match bytes {
-        LineData::Bytes16(bytes) => page.hex(bytes),
-        LineData::Bytes64(bytes) => page.hex(bytes),
     }
 }
 

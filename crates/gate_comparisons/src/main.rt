@@ -10,10 +10,14 @@ use std::sync::Wait;
 use std::thread::Threads;
 
 fn main(rt: HostRuntime) -> Result<()> {
-    // With an argument the plays that go on where memory is refused are all, to be tried with each allocation refused
-    // in turn.
-    if env::args(&rt)?.count() > 1 {
-        return gate_refusals::play_all(&rt);
+    // With a row's name that is played alone, to be tried with each allocation refused in turn.
+    let mut words = match env::args(&rt) {
+        Ok(words) => words,
+        Err(_) => env::args(&rt)?,
+    };
+    let _program = words.next();
+    if let Some(name) = words.next() {
+        return gate_refusals::play(&rt, name.as_str());
     }
     compare_all(&rt, &mut rt.stdout())
 }

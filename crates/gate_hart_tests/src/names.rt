@@ -47,9 +47,8 @@ fn is_nameless(symbols: &Symbols, address: u32) -> bool {
     symbols.nearest(address).is_none()
 }
 
-/// The file with these bytes at this place.
-fn changed(rt: &(impl Abort + AllocGlobal), at: usize, bytes: &[u8]) -> Vec<u8> {
-    let mut file = FILE.to_vec(rt.alloc()).expect(rt, "a file");
+/// Puts these bytes at this place of a file.
+fn put(file: &mut Vec<u8>, at: usize, bytes: &[u8]) {
     let mut at = at;
     for byte in bytes {
         if let Some(place) = file.get_mut(at) {
@@ -57,6 +56,12 @@ fn changed(rt: &(impl Abort + AllocGlobal), at: usize, bytes: &[u8]) -> Vec<u8> 
         }
         at = at.wrapping_add(1);
     }
+}
+
+/// The file with these bytes at this place.
+fn changed(rt: &(impl Abort + AllocGlobal), at: usize, bytes: &[u8]) -> Vec<u8> {
+    let mut file = FILE.to_vec(rt.alloc()).expect(rt, "a file");
+    put(&mut file, at, bytes);
     file
 }
 
@@ -158,7 +163,7 @@ fn broken_tables(rt: HostRuntime) {
 const DONE: usize = ENTRIES + 2 * 16;
 
 /// Fields of `done`'s entry, and letters of its name.
-const UNTOLD: [(usize, &[u8]); 10] = [
+const UNTOLD: [(usize, &[u8]); 9] = [
     (DONE, b"\xff\xff\xff\xff"),
     (DONE, b"\0\0\0\0"),
     (DONE + 12, b"\x03"),
@@ -166,9 +171,8 @@ const UNTOLD: [(usize, &[u8]); 10] = [
     (DONE + 14, b"\0\0"),
     (DONE + 14, b"\xf1\xff"),
     (STRINGS + 6, b"$"),
-    (STRINGS + 7, b" "),
+    (STRINGS + 7, b"\n"),
     (STRINGS + 8, b"\x7f"),
-    (STRINGS + 9, b"\xe9"),
 ];
 
 fn tells_loop_for_done(rt: &(impl Abort + AllocGlobal), file: &[u8], at: usize) {
@@ -183,6 +187,39 @@ fn untold_names(rt: HostRuntime) {
     for (at, bytes) in &UNTOLD {
         tells_loop_for_done(&rt, &changed(&rt, *at, bytes), *at);
     }
+}
+
+/// Names of blanks and of letters beyond ASCII are told.
+#[test]
+fn names_of_other_letters(rt: HostRuntime) {
+    let file = changed(&rt, STRINGS + 7, b" \xc3\xa9");
+    let symbols = read(&rt, &file);
+    same(&rt, is_told(&symbols, 0x8000_000c, b"d \xc3\xa9", 0), true);
+    same(&rt, symbols.address_of(b"d \xc3\xa9"), Some(0x8000_000c));
+}
+
+/// 60 bytes, the 53rd and 54th of which are one character.
+const LONG: &[u8] = b"abcdefghijklmnopqrstuvwxyzabcdefghijklmnopqrstuvwxyz\xc3\xa9123456";
+
+/// The file whose names are this one and what it ends with; `done` has it whole.
+fn renamed(rt: &(impl Abort + AllocGlobal), name: &[u8]) -> Vec<u8> {
+    let mut file = changed(rt, DONE, b"\0\0\0\0");
+    let strings = SECTIONS + 6 * 40;
+    put(&mut file, strings + 16, b"\xac\x02\0\0");
+    put(&mut file, strings + 20, b"\x3d\0\0\0");
+    file.extend_from_slice(name).expect(rt, "a name");
+    file.push(0).expect(rt, "its end");
+    file
+}
+
+/// A name of more than 56 bytes is told by whole characters of its first 53 bytes, and found by all of them.
+#[test]
+fn long_names(rt: HostRuntime) {
+    let symbols = read(&rt, &renamed(&rt, LONG));
+    let told = b"abcdefghijklmnopqrstuvwxyzabcdefghijklmnopqrstuvwxyz...";
+    same(&rt, is_told(&symbols, 0x8000_000c, told, 0), true);
+    same(&rt, symbols.address_of(LONG), Some(0x8000_000c));
+    same(&rt, symbols.address_of(told), None);
 }
 
 /// The file tells an address by this name alone, and another name's address.

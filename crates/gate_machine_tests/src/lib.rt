@@ -7,6 +7,8 @@ mod answers;
 #[cfg(test)]
 mod batches;
 #[cfg(test)]
+mod exchanging;
+#[cfg(test)]
 mod fabric;
 #[cfg(test)]
 mod images;

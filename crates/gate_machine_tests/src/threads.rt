@@ -18,7 +18,7 @@ use tl_types::{Channel, LineSize};
 use trace_recorder::Trace;
 
 /// More events than any run here takes.
-const LIMIT: u64 = 1_000_000_000;
+pub const LIMIT: u64 = 1_000_000_000;
 
 const MOST_POLLS: u64 = 10_000_000;
 
@@ -45,7 +45,7 @@ const SPIN: [u32; 1] = [0x0000006f];
 /// Loads of the words at 0x80000200, 0x80000100 and 0x80000300, then an exit.
 static THREE_LOADS: [u32; 5] = [0x80000637, 0x20062703, 0x10062703, 0x30062703, 0x00000073];
 
-struct Open;
+pub struct Open;
 
 impl Gate for Open {
     fn pass(&self, _hart: u8, _turn: u64, _lengths: &[u64]) {}

@@ -10,7 +10,7 @@ mod fabric;
 mod machine;
 mod shown;
 
-use anyhow::{Context, Result};
+use anyhow::{Context, Result, bail};
 use batch::adopt_first;
 use case::Case;
 use fabric::play_fabric;
@@ -23,16 +23,38 @@ const NAMES: [&str; 4] = ["row_10", "row_13", "row_18", "row_34"];
 
 /// Plays each case, and says how many instructions of it were adopted and committed as a batch.
 pub fn play_all<R: Files + Print + Eprint + AllocGlobal>(rt: &R) -> Result<()> {
-    let mut pages = match Pages::new(rt.alloc()) {
-        Ok(pages) => pages,
-        Err(_) => Pages::new(rt.alloc())?,
-    };
+    let mut pages = made_pages(rt)?;
     for name in NAMES {
-        let adopted = play_case(rt, name, &mut pages).context(name)?;
-        println!(rt;
-            "{name}: as kept, through apply, replay and a fabric; {adopted} adopted and committed as by local"
-        )?;
+        tell_case(rt, name, &mut pages)?;
     }
+    Ok(())
+}
+
+/// Plays the case of one name alone, as the tool does that refuses each of its allocations in turn.
+pub fn play<R: Files + Print + Eprint + AllocGlobal>(rt: &R, name: &str) -> Result<()> {
+    let mut pages = made_pages(rt)?;
+    let Some(name) = NAMES.into_iter().find(|known| *known == name) else {
+        bail!("no case has this name");
+    };
+    tell_case(rt, name, &mut pages)
+}
+
+fn made_pages<R: AllocGlobal>(rt: &R) -> Result<Pages> {
+    match Pages::new(rt.alloc()) {
+        Ok(pages) => Ok(pages),
+        Err(_) => Ok(Pages::new(rt.alloc())?),
+    }
+}
+
+fn tell_case<R: Files + Print + Eprint + AllocGlobal>(
+    rt: &R,
+    name: &'static str,
+    pages: &mut Pages,
+) -> Result<()> {
+    let adopted = play_case(rt, name, pages).context(name)?;
+    println!(rt;
+        "{name}: as kept, through apply, replay and a fabric; {adopted} adopted and committed as by local"
+    )?;
     Ok(())
 }
 

@@ -1,5 +1,5 @@
 -- Lawful messages, and the first message of another log that breaks a rule.
-use Rattle.std.specs.Prelude.{ℕ, ◌≡◌, ◌+◌, ◌↔◌, List, [], ◌∷◌, Option, take}
+use Rattle.std.specs.Prelude.{ℕ, ◌≡◌, ◌+◌, ◌↔◌, Bool, true, false, List, [], ◌∷◌, Option, take}
 use Rattle.coherent_log.specs.Laws as coherence
 use Rattle.coherent_log.specs.Laws.{IsCoherentLog}
 use Rattle.coherent_log.specs.declared.verdict.CoherenceVerdict.{CoherenceVerdict}
@@ -49,6 +49,11 @@ IsFirstFaultAtEnd image log (Incoherent breach) index = IsFirstFault image log (
 pub record IsEndedVerdict (image : Option Initial) (log : List Logged) (v : MessageVerdict) : Type 0 where
   pub lawful : (v ≡ message.Lawful) ↔ AreEndedMessages image log
   pub unlawful : IfUnlawful v (λ breach index. IsFirstFaultAtEnd image log breach index)
+
+-- the verdict on a log that has ended, or may go on
+abbrev pub IsVerdict : (ended : Bool) → Option Initial → List Logged → MessageVerdict → Type 0
+IsVerdict true = IsEndedVerdict
+IsVerdict false = IsMessageVerdict
 
 -- those of the two judges
 pub record IsLogVerdict (log : List Logged) (v : LogVerdict) : Type 0 where

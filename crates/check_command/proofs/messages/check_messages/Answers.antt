@@ -1,8 +1,7 @@
 use Rattle.std.proofs.Common.{◌∙◌, refl}
-use Rattle.std.specs.Option.{option_copied}
 use Rattle.check_command.proofs.Unread.{log_told, trace_is_not_write}
 use Rattle.command_files.proofs.Left.{handed_up, left, spoiled}
-use Rattle.check_command.proofs.Logs.{log_held, verdict_on}
+use Rattle.check_command.proofs.Logs.{log_held}
 use Rattle.check_command.proofs.Told.{of_log, text_is_not_write}
 use Rattle.check_command.proofs.messages.check_messages.Goals as goal
 
@@ -16,9 +15,9 @@ returns-in_err-bytes-clause-told g c = handed_up _ c.from_residual.result _ c.fr
 pub returns-in-Err-clause-unfinished : goal.returns-in-Err-clause-unfinished
 returns-in-Err-clause-unfinished g c = spoiled _ _ _ c.writing.result c.writing.ensures.told (record {
   trace = c.in_ok-trace.trace.history;
-  verdict = c.in-Ok-judge_messages.verdict;
+  verdict = c.in-Ok-judged.verdict;
   file = log_held (g.F.Files.held c.args.files.now) c.args.file.now c.in_ok-bytes.bytes.items c.as_slice.result.now c.in_ok-trace.trace.history c.in_ok-bytes.ensures.bytes (c.as_slice.ensures.value ∙ c.in-Ok.ensures) c.in_ok-trace.ensures.read;
-  judged = verdict_on c.in_ok-trace.trace.history (option_copied c.memory_at_start.result) c.log.result.now c.in-Ok-judge_messages.verdict c.memory_at_start.ensures c.log.ensures c.in-Ok-judge_messages.ensures;
+  judged = c.in-Ok-judged.ensures;
   begun = c.in-Err.ensures;
 })
 
@@ -26,7 +25,7 @@ pub returns-clause-judged : goal.returns-clause-judged
 returns-clause-judged g c = record {
   trace = c.in_ok-trace.trace.history;
   file = log_held (g.F.Files.held c.args.files.now) c.args.file.now c.in_ok-bytes.bytes.items c.as_slice.result.now c.in_ok-trace.trace.history c.in_ok-bytes.ensures.bytes (c.as_slice.ensures.value ∙ c.in-Ok.ensures) c.in_ok-trace.ensures.read;
-  judged = verdict_on c.in_ok-trace.trace.history (option_copied c.memory_at_start.result) c.log.result.now c.in-Ok-judge_messages.verdict c.memory_at_start.ensures c.log.ensures c.in-Ok-judge_messages.ensures;
+  judged = c.in-Ok-judged.ensures;
   printed = c.in_default-print.ensures;
 }
 

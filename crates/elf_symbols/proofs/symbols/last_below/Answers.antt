@@ -1,4 +1,4 @@
-use Rattle.std.proofs.Common.{◌≡◌, ℕ, ◌-◌, ◌<◌, ◌≤◌, leb, leb-true, arith, rules, ap, sym, ◌∙◌, true, false, Some, get_or, length}
+use Rattle.std.proofs.Common.{◌≡◌, ◌-◌, ◌<◌, leb, leb-true, arith, rules, ap, sym, ◌∙◌, true, false, Some, length}
 use Rattle.std.specs.List.Sorted.{IsPartitionPoint}
 use Rattle.std.proofs.lemmas.List.Sorted.{IsPartitionPoint-from_clause, IsPartitionedBy-leb}
 use Rattle.elf_symbols.specs.Named.{Named}

@@ -1,4 +1,4 @@
-use Rattle.std.proofs.Common.{◌≡◌, ℕ, ◌/◌, ◌<◌, ap, sym, ◌∙◌, arith, length}
+use Rattle.std.proofs.Common.{ℕ, ◌/◌, ◌<◌, ap, sym, ◌∙◌, arith, length}
 use Rattle.elf_symbols.specs.Entries.{entry_at, symbol_in}
 use Rattle.elf_symbols.proofs.Walks.{names-more, names-same}
 use Rattle.elf_symbols.proofs.symbols.table_symbols.Goals as goal

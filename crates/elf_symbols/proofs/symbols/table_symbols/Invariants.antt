@@ -1,4 +1,4 @@
-use Rattle.std.proofs.Common.{◌≡◌, ℕ, ◌-◌, ◌/◌, ◌++◌, length}
+use Rattle.std.proofs.Common.{◌≡◌, ◌-◌, ◌/◌, ◌++◌, length}
 use Rattle.std.specs.List.{range_with_len, filter_map}
 use Rattle.elf_symbols.specs.Entries.{entry_at, symbol_in, symbols_in}
 use Rattle.elf_symbols.proofs.symbols.table_symbols.Given as goal

@@ -1,7 +1,7 @@
-use Rattle.std.proofs.Common.{◌≡◌, ℕ, ◌-◌, ◌<◌, List, map, Some, ap, sym, ◌∙◌, arith}
+use Rattle.std.proofs.Common.{◌<◌, map, Some, ap, sym, ◌∙◌, arith}
 use Rattle.std.proofs.lemmas.Bool.{cond-true, cond-false}
 use Rattle.std.specs.List.{find}
-use Rattle.elf_symbols.specs.Tables.{e_shnum, is_symbol_table, section, symbol_table}
+use Rattle.elf_symbols.specs.Tables.{e_shnum, is_symbol_table, section}
 use Rattle.elf_symbols.proofs.Walks.{range-from}
 use Rattle.elf_symbols.proofs.tables.symbol_table.Goals as goal
 

@@ -1,4 +1,4 @@
-use Rattle.std.proofs.Common.{◌≡◌, ℕ, ◌-◌, map}
+use Rattle.std.proofs.Common.{◌≡◌, ◌-◌, map}
 use Rattle.std.specs.List.{range_with_len, find}
 use Rattle.elf_symbols.specs.Tables.{e_shnum, is_symbol_table, section, symbol_table}
 use Rattle.elf_symbols.proofs.tables.symbol_table.Given as goal

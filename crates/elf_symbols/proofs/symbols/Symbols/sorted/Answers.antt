@@ -1,4 +1,4 @@
-use Rattle.std.proofs.Common.{rules, is_ok}
+use Rattle.std.proofs.Common.{rules}
 use Rattle.std.proofs.lemmas.List.Sorted.{IsNonDecreasingBy-from_sort_by_key, answers_always}
 use Rattle.elf_symbols.specs.Named.{Named}
 use Rattle.elf_symbols.proofs.Sorting.{by_address-from_sort}
