@@ -19,7 +19,7 @@ use Rattle.command_settings.specs.declared.wanted.Check.{Check as Judging}
 use Rattle.command_settings.specs.declared.wanted.Explain.{Explain as Telling}
 use Rattle.command_settings.specs.declared.wanted.Explore.{Explore as Sought}
 use Rattle.command_settings.specs.declared.wanted.Settings.{Settings}
-use Rattle.command_settings.specs.declared.wanted.Settings.TheVariants.{Chart, Check, Explain, Explore, Replay, Run, Show}
+use Rattle.command_settings.specs.declared.wanted.Settings.TheVariants.{Chart, Check, Explain, Explore, Fences, Replay, Run, Show}
 use Rattle.command_settings.specs.declared.wanted.Show.{Show as Shown}
 use Rattle.event_stream.specs.declared.strictness.Strictness.{Strictness}
 use Rattle.script_commands.specs.Explaining.{LeavesOfStream}
@@ -63,6 +63,7 @@ module _ (held left : Contents) (old new : Option (List ℕ)) where
   either_of (Explore explore) fault so = some_part old new (ExploreHas explore.architecture (nat_lt 0 explore.sample) held explore) fault (search_begins explore.architecture (nat_lt 0 explore.sample) explore) so
   either_of (Show show) fault so = some_part old new (ShowHas show.explore.architecture held show) fault (words_begin show.explore.architecture show) so
   either_of (Chart chart) fault so = either old new _ fault so
+  either_of (Fences fences) fault so = either old new _ fault so
   either_of (Check check) fault so = either old new _ fault so
 
 -- ---- which status it has

@@ -19,12 +19,14 @@ use Rattle.command_line.specs.Running.{MeetsSomeState, ShowsElsewhere}
 use Rattle.command_line.specs.Telling.{ComesBeforeFiles, IsShowingFault}
 use Rattle.command_settings.specs.Settings.{IsNamed}
 use Rattle.command_settings.specs.declared.wanted.Explore.{Explore as Sought}
+use Rattle.command_settings.specs.declared.wanted.Fences.{Fences as Audited}
 use Rattle.command_settings.specs.declared.wanted.Run.{Run as Asked}
 use Rattle.command_settings.specs.declared.wanted.Settings.{Settings}
 use Rattle.command_settings.specs.declared.wanted.Show.{Show as Shown}
-use Rattle.command_settings.specs.declared.wanted.Settings.TheVariants.{Chart, Check, Explain, Explore, Replay, Run, Show}
+use Rattle.command_settings.specs.declared.wanted.Settings.TheVariants.{Chart, Check, Explain, Explore, Fences, Replay, Run, Show}
 use Rattle.explore_command.specs.Exploring.{IsExploreFault, LeavesPart}
 use Rattle.explore_command.specs.Keeping.{SparesOthers}
+use Rattle.fences_command.specs.Fencing.{IsFencesFault}
 use Rattle.run_command.specs.Running.{IsRunFault}
 use Rattle.explore_command.specs.Asking.{HasUnshown}
 
@@ -36,6 +38,7 @@ some_states words (Replay replay) named = tt
 some_states words (Explain explain) named = tt
 some_states words (Chart chart) named = tt
 some_states words (Run run) named = tt
+some_states words (Fences fences) named = omega (arith, named.5.1.states.1)
 some_states words (Check check) named = tt
 
 -- a fault of status 2 tells of a machine that can't be, and leaves the output as it was
@@ -44,6 +47,12 @@ pub beyond_run : (held : Contents) (old new : Option (List ℕ)) (run : Asked) (
 beyond_run held old new run broken fault told leaves two =
     let at = only_configuration fault (λ word address. subst (IsRunFault held run) address told) (λ word cause shown. subst (IsRunFault held run) shown told) two in
     (subst (IsRunFault held run) at told, subst (λ f. LeavesAtFault f old new broken) at leaves)
+
+pub beyond_fences : (held : Contents) (old new : Option (List ℕ)) (fences : Audited) (broken : Type 0) (fault : Fault) → IsFencesFault held fences fault → LeavesAtFault fault old new broken → status_of fault ≡ 2
+    → IsOutside fences.machine × (new ≡ old)
+beyond_fences held old new fences broken fault told leaves two =
+    let at = only_configuration fault (λ word address. subst (IsFencesFault held fences) address told) (λ word cause shown. subst (IsFencesFault held fences) shown told) two in
+    (subst (IsFencesFault held fences) at told, subst (λ f. LeavesAtFault f old new broken) at leaves)
 
 pub beyond_explore : (held : Contents) (old new : Option (List ℕ)) (explore : Sought) (Has : (List ℕ → Type 0) → Type 0) (fault : Fault) → IsExploreFault held explore fault → LeavesPart fault old new Has → status_of fault ≡ 2
     → IsOutside explore.machine × (new ≡ old)
@@ -119,6 +128,7 @@ misused_early (Show show) fault two = misused_so (ComesBeforeFiles (Show show)) 
 misused_early (Replay replay) fault two = tt
 misused_early (Explain explain) fault two = tt
 misused_early (Chart chart) fault two = tt
+misused_early (Fences fences) fault two = tt
 misused_early (Check check) fault two = tt
 
 -- a file that changed is one of those that are written

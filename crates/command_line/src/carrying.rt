@@ -16,6 +16,7 @@ use command_files::{Fault, Files, Unshown};
 use command_settings::{Check, Explore, Settings, Show};
 use event_stream::Strictness;
 use explore_command::{Judgement, architecture_files, explore_files, sample_files, show_files};
+use fences_command::fences_files;
 use message_judge::MessageVerdict;
 use progress_line::Progress;
 use run_command::run_files;
@@ -76,6 +77,10 @@ pub(crate) fn carry_out<
         }
         Settings::Explore(explore) => explored(alloc, files, explore, out, err, progress),
         Settings::Show(show) => shown(alloc, files, &show, out, err, progress),
+        Settings::Fences(fences) => {
+            fences_files(alloc, files, fences, out, progress)?;
+            Ok(Judgement::Allowed)
+        }
         Settings::Check(check) => checked(alloc, files, check, out, err),
     }
 }

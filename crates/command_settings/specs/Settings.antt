@@ -11,6 +11,7 @@ use Rattle.command_settings.specs.declared.wanted.Chart.{Chart}
 use Rattle.command_settings.specs.declared.wanted.Check.{Check}
 use Rattle.command_settings.specs.declared.wanted.Explain.{Explain}
 use Rattle.command_settings.specs.declared.wanted.Explore.{Explore}
+use Rattle.command_settings.specs.declared.wanted.Fences.{Fences}
 use Rattle.command_settings.specs.declared.wanted.MachineOptions.{MachineOptions}
 use Rattle.command_settings.specs.declared.wanted.Replay.{Replay}
 use Rattle.command_settings.specs.declared.wanted.Run.{Run}
@@ -107,6 +108,14 @@ pub record IsExploreMeant (rows : List Row) (explore : Explore) : Type 0 where
   pub window : IsNumberIn (codes "window") least_window most_window rows explore.window
   pub image : IsText (codes "IMAGE") rows explore.image.now
 
+-- the arguments of `fences` have these texts, and these numbers in their ranges
+pub record IsFencesMeant (rows : List Row) (fences : Fences) : Type 0 where
+  pub raw : IsFlag (codes "raw") rows fences.raw
+  pub machine : IsMachineMeant rows fences.machine
+  pub states : IsNumberIn (codes "states") least_limit most_limit rows fences.states
+  pub window : IsNumberIn (codes "window") least_window most_window rows fences.window
+  pub image : IsText (codes "IMAGE") rows fences.image.now
+
 -- the arguments of `check` have these texts
 pub record IsCheckMeant (rows : List Row) (check : Check) : Type 0 where
   pub messages : IsFlag (codes "messages") rows check.messages
@@ -121,6 +130,7 @@ IsMeant name rows (settings.Explain explain) = (name ≡ codes "explain") × IsE
 IsMeant name rows (settings.Chart chart) = (name ≡ codes "chart") × IsChartMeant rows chart
 IsMeant name rows (settings.Run run) = (name ≡ codes "run") × IsRunMeant rows run
 IsMeant name rows (settings.Explore explore) = (name ≡ codes "explore") × IsExploreMeant rows explore
+IsMeant name rows (settings.Fences fences) = (name ≡ codes "fences") × IsFencesMeant rows fences
 IsMeant name rows (settings.Check check) = (name ≡ codes "check") × IsCheckMeant rows check
 IsMeant name rows (settings.Show show) = ⊥
 
@@ -142,6 +152,7 @@ IsAsked name rows (settings.Chart chart) = IsMeant name rows (settings.Chart cha
 IsAsked name rows (settings.Run run) = IsMeant name rows (settings.Run run)
 IsAsked name rows (settings.Explore explore) = IsMeant name rows (settings.Explore explore) × (shown_in rows ≡ [])
 IsAsked name rows (settings.Show show) = (name ≡ codes "explore") × IsShowMeant rows show
+IsAsked name rows (settings.Fences fences) = IsMeant name rows (settings.Fences fences)
 IsAsked name rows (settings.Check check) = IsMeant name rows (settings.Check check)
 
 -- ---- what doesn't go together

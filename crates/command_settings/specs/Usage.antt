@@ -155,6 +155,16 @@ abbrev pub explore_arguments : List Argument
 explore_arguments =
     flag (codes "raw") ∷ machine_arguments ++ search_arguments ++ sample_arguments ++ window_arguments ++ repeated (codes "show") ∷ file (codes "IMAGE") ∷ []
 
+-- `[--raw]`, those of a machine, and `[--states LIMIT] [--window N] IMAGE`
+abbrev pub fences_arguments : List Argument
+fences_arguments =
+    flag (codes "raw")
+    ∷ machine_arguments
+    ++ number (codes "states") (codes "4000000") least_limit most_limit
+    ∷ number (codes "window") (codes "16") least_window most_window
+    ∷ file (codes "IMAGE")
+    ∷ []
+
 -- `[--messages] [--ended] [--model NAME] TRACE`
 abbrev pub check_arguments : List Argument
 check_arguments = flag (codes "messages") ∷ flag (codes "ended") ∷ model ∷ file (codes "TRACE") ∷ []
@@ -180,11 +190,14 @@ run = record { name = codes "run"; arguments = run_arguments }
 abbrev pub explore : Subcommand
 explore = record { name = codes "explore"; arguments = explore_arguments }
 
+abbrev pub fences : Subcommand
+fences = record { name = codes "fences"; arguments = fences_arguments }
+
 abbrev pub check : Subcommand
 check = record { name = codes "check"; arguments = check_arguments }
 
 abbrev pub subcommands : List Subcommand
-subcommands = replay ∷ explain ∷ chart ∷ run ∷ explore ∷ check ∷ []
+subcommands = replay ∷ explain ∷ chart ∷ run ∷ explore ∷ fences ∷ check ∷ []
 
 abbrev pub app_for : ModelNames → Subcommand → App
 app_for names subcommand = with_arguments names (new_app subcommand.name) subcommand.arguments

@@ -2,11 +2,11 @@
 
 ghost use Rattle.std.specs.Prelude.{◌≡◌, IfOk, codes, false, true};
 ghost use Rattle.clap.specs.Words.{App, Rule, app_of, new_app, rule_of, with_rule, with_subcommand};
-ghost use Rattle.command_settings.specs.Usage.{AreModelNames, ModelNames, IsUsage, app_for, chart, check, explain, explore, file_rule, flag_rule, least_limit, least_window, machine_arguments, model_rule, most_limit, most_size, most_window, named_rule, number_rule, optional_rule, repeated_rule, replay, replay_arguments, required_rule, run, sample_arguments, search_arguments, window_arguments, with_arguments};
+ghost use Rattle.command_settings.specs.Usage.{AreModelNames, ModelNames, IsUsage, app_for, chart, check, explain, explore, fences, file_rule, flag_rule, least_limit, least_window, machine_arguments, model_rule, most_limit, most_size, most_window, named_rule, number_rule, optional_rule, repeated_rule, replay, replay_arguments, required_rule, run, sample_arguments, search_arguments, window_arguments, with_arguments};
 
 use crate::help::{
-    ALLOW_HELP, CHART_HELP, CHECK_HELP, EXPLAIN_HELP, EXPLORE_HELP, FAIL_ON_HELP, LINE_HELP,
-    PROGRAM_HELP, REPLAY_HELP, RUN_HELP, SCRIPTS_HELP, SHOW_HELP,
+    ALLOW_HELP, CHART_HELP, CHECK_HELP, EXPLAIN_HELP, EXPLORE_HELP, FAIL_ON_HELP, FENCES_HELP,
+    LINE_HELP, PROGRAM_HELP, REPLAY_HELP, RUN_HELP, SCRIPTS_HELP, SHOW_HELP,
 };
 use clap::builder::ValueParser;
 use clap::{Arg, ArgAction, Command};
@@ -49,6 +49,7 @@ fn command_over<'a>(alloc: Global, models: &'a [&'a str]) -> Result<Command<'a>,
     let command = add_subcommand(command, chart_command(alloc, models));
     let command = add_subcommand(command, run_command(alloc, models));
     let command = add_subcommand(command, explore_command(alloc, models));
+    let command = add_subcommand(command, fences_command(alloc, models));
     add_subcommand(command, check_command(alloc, models))
 }
 
@@ -129,6 +130,18 @@ fn explore_command<'a>(alloc: Global, models: &'a [&'a str]) -> Result<Command<'
     let command = with_search(alloc, command);
     let command = with_sample(alloc, command);
     let command = add_arg(with_window(alloc, command), show(alloc));
+    add_arg(command, image(alloc))
+}
+
+fn fences_command<'a>(alloc: Global, models: &'a [&'a str]) -> Result<Command<'a>, AllocError>
+    ensures { IfOk result (λ made. app_of made ≡ app_for models.entry fences) }
+{
+    let about = "Finds which fences and annotations a program needs, and which it could do without";
+    let command = described(alloc, "fences", about, FENCES_HELP);
+    let command = add_arg(Ok(command), raw(alloc));
+    let command = with_machine(alloc, models, command);
+    let command = add_arg(command, states(alloc));
+    let command = add_arg(command, window(alloc));
     add_arg(command, image(alloc))
 }
 

@@ -131,6 +131,24 @@ at most 1,000,000 tried events, and the last line is sampled: RUNS runs, not com
 
 Example: rvtl explore --harts 2 examples/dekker.elf";
 
+pub(crate) const FENCES_HELP: &str =
+    "An ordering is a FENCE, or a bit aq or rl of an LR, SC or AMO. The memory model's outcomes are searched (as
+by explore --architecture) for the program as it is, and without each ordering: a nop in place of the FENCE,
+the bit cleared. Of each is told
+  not needed                      both searches found the same outcomes, and met no bound
+  needed: without it OUTCOME      the program as it is doesn't have this outcome
+  undecided, BOUND                no other outcome was found, and this bound was met
+and below a FENCE that is needed
+  enough: FENCE                   the outcomes are the same with this one, and with no weaker one
+The line behind them tells orderings that are enough together: from all, one after another was left out by
+addresses, and then each FENCE made weaker, where the outcomes stayed the same; none of those told can be
+left out. Another order may leave others. The last line is
+  searched: N orderings, P programs, M outcomes of the program as it is, no window over W (not proved complete)
+or undecided: the program as it is, and the bound that its search met. A word of data that looks like such an
+instruction counts as one. What is told holds of so many harts, and of this program's own data.
+
+Example: rvtl fences --harts 2 examples/mcs_lock.elf";
+
 pub(crate) const SHOW_HELP: &str =
     "show the word of memory at this address (decimal, or hexadecimal behind 0x) or symbol in each outcome, which then ends only once no store waits; may be given again";
 

@@ -8,5 +8,6 @@ mod wanted;
 
 pub use usage::settings;
 pub use wanted::{
-    Chart, Check, Explain, Explore, MachineOptions, Replay, Run, Settings, SettingsError, Show,
+    Chart, Check, Explain, Explore, Fences, MachineOptions, Replay, Run, Settings, SettingsError,
+    Show,
 };

@@ -3,12 +3,13 @@
 ghost use Rattle.std.specs.Prelude.{ℕ, ◌≡◌, ◌≢◌, ◌<◌, ◌^◌, IfErr, IfOk, IfSome, IsNone, List, OnOk, Some, map};
 ghost use Rattle.clap.specs.Words.{Row, Text, app_of, found_of, rows_of, subcommand_rows_of};
 ghost use Rattle.command_settings.specs.Refusals.{IsFitting, IsRefused, TellsConflict};
-ghost use Rattle.command_settings.specs.Settings.{AreConflicting, HasAll, HasNumber, IsChartMeant, IsCheckMeant, IsComplete, IsExplainMeant, IsExploreMeant, IsMachineMeant, IsMeant, IsNamed, IsNumberIn, IsReplayMeant, IsRunMeant, IsAsked, name_of, shown_in};
-ghost use Rattle.command_settings.specs.Usage.{IsUsage, chart_arguments, check_arguments, explain_arguments, explore_arguments, machine_arguments, replay_arguments, run_arguments};
+ghost use Rattle.command_settings.specs.Settings.{AreConflicting, HasAll, HasNumber, IsChartMeant, IsCheckMeant, IsComplete, IsExplainMeant, IsExploreMeant, IsFencesMeant, IsMachineMeant, IsMeant, IsNamed, IsNumberIn, IsReplayMeant, IsRunMeant, IsAsked, name_of, shown_in};
+ghost use Rattle.command_settings.specs.Usage.{IsUsage, chart_arguments, check_arguments, explain_arguments, explore_arguments, fences_arguments, machine_arguments, replay_arguments, run_arguments};
 
 use crate::commands::command;
 use crate::wanted::{
-    Chart, Check, Explain, Explore, MachineOptions, Replay, Run, Settings, SettingsError, Show,
+    Chart, Check, Explain, Explore, Fences, MachineOptions, Replay, Run, Settings, SettingsError,
+    Show,
 };
 use clap::error::ErrorKind;
 use clap::{ArgMatches, Command};
@@ -54,7 +55,7 @@ fn settings_by<'a, S: AsStr>(
 
 /// The refusal of words that name no subcommand.
 fn without_subcommand(command: &mut Command<'_>) -> SettingsError {
-    let wanted = "replay, explain, chart, run, explore or check is wanted";
+    let wanted = "replay, explain, chart, run, explore, fences or check is wanted";
     match command.error(ErrorKind::MissingSubcommand, wanted) {
         Ok(error) => SettingsError::Usage(error),
         Err(AllocError) => SettingsError::NoMemory,
@@ -62,10 +63,7 @@ fn without_subcommand(command: &mut Command<'_>) -> SettingsError {
 }
 
 /// The settings, unless they don't go together: only those of an exploration may not.
-fn agreeing<'a>(
-    alloc: Global,
-    settings: Settings<'a>,
-) -> Result<Settings<'a>, SettingsError>
+fn agreeing<'a>(alloc: Global, settings: Settings<'a>) -> Result<Settings<'a>, SettingsError>
     ensures same { IfOk result (λ agreed. agreed ≡ settings.entry) }
     ensures agreeing { IfOk result (λ agreed. AreConflicting agreed → ⊥) }
     ensures told { IfErr result (TellsConflict settings.entry) }
@@ -133,6 +131,7 @@ fn settings_named<'a>(name: &str, given: &ArgMatches<'a>) -> Option<Settings<'a>
         "chart" => Some(Settings::Chart(chart_of(given)?)),
         "run" => Some(Settings::Run(run_of(given)?)),
         "explore" => Some(Settings::Explore(explore_of(given)?)),
+        "fences" => Some(Settings::Fences(fences_of(given)?)),
         "check" => Some(Settings::Check(check_of(given)?)),
         _ => None,
     }
@@ -220,6 +219,20 @@ fn explore_of<'a>(matches: &ArgMatches<'a>) -> Option<Explore<'a>>
         sample: number_of(matches, "sample")?,
         seed: number_of(matches, "seed")?,
         architecture: matches.get_flag("architecture"),
+        window: number_of(matches, "window")?,
+        image: matches.get_str("IMAGE")?,
+    })
+}
+
+fn fences_of<'a>(matches: &ArgMatches<'a>) -> Option<Fences<'a>>
+    ensures meant { IfSome result (λ fences. HasAll (rows_of (found_of matches.now)) fences_arguments
+        → IsFencesMeant (rows_of (found_of matches.now)) fences) }
+    ensures missing { IsNone result → HasAll (rows_of (found_of matches.now)) fences_arguments → ⊥ }
+{
+    Some(Fences {
+        raw: matches.get_flag("raw"),
+        machine: machine_of(matches)?,
+        states: number_of(matches, "states")?,
         window: number_of(matches, "window")?,
         image: matches.get_str("IMAGE")?,
     })

@@ -183,6 +183,19 @@ pub struct Show<'a> {
     pub words: Vec<&'a str>,
 }
 
+/// Find out which of the orderings of the program of the file `image` it needs. The image has bare words where `raw` is
+/// set, and else is an ELF file.
+#[derive(Clone, Copy)]
+pub struct Fences<'a> {
+    pub raw: bool,
+    pub machine: MachineOptions,
+    /// How many states each search may meet before it ends: 1 to 1000000000.
+    pub states: u32,
+    /// How many operations of a hart may wait at a time: 1 to 64.
+    pub window: u32,
+    pub image: &'a str,
+}
+
 /// Judge the order of the trace in the file `trace`, or its messages.
 #[derive(Clone, Copy)]
 pub struct Check<'a> {
@@ -204,6 +217,7 @@ pub enum Settings<'a> {
     Chart(Chart<'a>),
     Explore(Explore<'a>),
     Show(Show<'a>),
+    Fences(Fences<'a>),
     Check(Check<'a>),
 }
 
@@ -219,6 +233,7 @@ impl Settings<'_> {
             | Settings::Run(_)
             | Settings::Explain(_)
             | Settings::Chart(_)
+            | Settings::Fences(_)
             | Settings::Check(_) => None,
         }
     }

@@ -1,7 +1,7 @@
 //! What the command line says.
 
 use command_files::{Files, SystemFiles};
-use command_line::run_line;
+use program_line::run_program;
 use progress_line::Silent;
 use std::alloc::Global;
 use std::io::{self, Write};
@@ -16,7 +16,7 @@ pub fn run<R: Threads + Wait + Sync + AllocGlobal, F: Files, W: Write>(
     out: &mut W,
     err: &mut Vec<u8>,
 ) -> u8 {
-    run_line(rt, rt.alloc(), words, files, out, err, &Silent)
+    run_program(rt, rt.alloc(), words, files, out, err, &Silent)
 }
 
 /// What the command line printed, and its status.

@@ -47,12 +47,14 @@ use std::rt::Files;
 use std::sync::Wait;
 use std::thread::Threads;
 
-static TRANSCRIPTS: [&str; 8] = [
+static TRANSCRIPTS: [&str; 9] = [
     "replaying",
     "drawing",
     "explaining",
     "exploring",
+    "fencing",
     "judging",
+    "litmus",
     "messages",
     "running",
     "showing",

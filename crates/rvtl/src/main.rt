@@ -5,9 +5,9 @@ mod streams;
 
 use crate::streams::{Messages, Output};
 use command_files::{Remarked, SystemFiles, WithInput};
-use command_line::run_line;
 use exit_codes::code_of;
 use notes::FileNote;
+use program_line::run_program;
 use progress_line::ProgressLine;
 use std::cell::Cell;
 use std::env;
@@ -62,7 +62,7 @@ fn run<
     let mut out = BufWriter::new(alloc, Output::new(out, &lost))?;
     let mut err = Messages::new(err, &lost);
     let mut files = Remarked::new(WithInput::new(rt, SystemFiles::new(rt)));
-    let status = run_line(
+    let status = run_program(
         rt,
         alloc,
         words.as_slice(),

@@ -14,8 +14,8 @@ no_match a b other = go (bytes_eq b a) refl
 
 -- no other name is one of a subcommand
 unknown : (name : Text) (rows : List Row) → (name ≡ codes "replay" → ⊥) → (name ≡ codes "explain" → ⊥) → (name ≡ codes "chart" → ⊥) → (name ≡ codes "run" → ⊥)
-    → (name ≡ codes "explore" → ⊥) → (name ≡ codes "check" → ⊥) → IsComplete name rows → ⊥
-unknown name rows no_replay no_explain no_chart no_run no_explore no_check whole = rw (no_match name (codes "replay") no_replay, no_match name (codes "explain") no_explain, no_match name (codes "chart") no_chart, no_match name (codes "run") no_run, no_match name (codes "explore") no_explore, no_match name (codes "check") no_check) at whole
+    → (name ≡ codes "explore" → ⊥) → (name ≡ codes "fences" → ⊥) → (name ≡ codes "check" → ⊥) → IsComplete name rows → ⊥
+unknown name rows no_replay no_explain no_chart no_run no_explore no_fences no_check whole = rw (no_match name (codes "replay") no_replay, no_match name (codes "explain") no_explain, no_match name (codes "chart") no_chart, no_match name (codes "run") no_run, no_match name (codes "explore") no_explore, no_match name (codes "fences") no_fences, no_match name (codes "check") no_check) at whole
 
 complete : (name other : Text) (rows : List Row) → name ≡ other → IsComplete name rows → IsComplete other rows
 complete name other rows is whole = subst (λ n. IsComplete n rows) is whole
@@ -60,6 +60,14 @@ returns-in_ok-explore_of-in-explore-clause-meant c = λ whole.
 pub returns-in_err-explore_of-in-explore-clause-missing : goal.returns-in_err-explore_of-in-explore-clause-missing
 returns-in_err-explore_of-in-explore-clause-missing c = λ none whole. c.in_err-explore_of-in-explore.ensures.missing refl (complete c.args.name.now (codes "explore") (rows_of (found_of c.args.given.now)) (search rules) whole)
 
+pub returns-in_ok-fences_of-in-fences-clause-meant : goal.returns-in_ok-fences_of-in-fences-clause-meant
+returns-in_ok-fences_of-in-fences-clause-meant c = λ whole.
+    let is : c.args.name.now ≡ codes "fences" = search rules in
+    (is, c.in_ok-fences_of-in-fences.ensures.meant (complete c.args.name.now (codes "fences") (rows_of (found_of c.args.given.now)) is whole))
+
+pub returns-in_err-fences_of-in-fences-clause-missing : goal.returns-in_err-fences_of-in-fences-clause-missing
+returns-in_err-fences_of-in-fences-clause-missing c = λ none whole. c.in_err-fences_of-in-fences.ensures.missing refl (complete c.args.name.now (codes "fences") (rows_of (found_of c.args.given.now)) (search rules) whole)
+
 pub returns-in_ok-check_of-in-check-clause-meant : goal.returns-in_ok-check_of-in-check-clause-meant
 returns-in_ok-check_of-in-check-clause-meant c = λ whole.
     let is : c.args.name.now ≡ codes "check" = search rules in
@@ -70,4 +78,4 @@ returns-in_err-check_of-in-check-clause-missing c = λ none whole. c.in_err-chec
 
 pub returns-in_default-clause-missing : goal.returns-in_default-clause-missing
 returns-in_default-clause-missing c = λ none whole.
-    unknown c.args.name.now (rows_of (found_of c.args.given.now)) (λ at. search rules) (λ at. search rules) (λ at. search rules) (λ at. search rules) (λ at. search rules) (λ at. search rules) whole
+    unknown c.args.name.now (rows_of (found_of c.args.given.now)) (λ at. search rules) (λ at. search rules) (λ at. search rules) (λ at. search rules) (λ at. search rules) (λ at. search rules) (λ at. search rules) whole

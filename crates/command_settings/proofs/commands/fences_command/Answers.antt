@@ -1,0 +1,9 @@
+use Rattle.command_settings.proofs.commands.fences_command.Goals as goal
+
+pub returns : goal.returns
+returns c =
+    let raw_is = c.add_arg-command.ensures _ _ c.described-command.ensures c.raw.ensures.rule c.raw.ensures.local in
+    let machine_is = c.with_machine-command.ensures _ raw_is in
+    let states_is = c.add_arg-command-2.ensures _ _ machine_is c.states.ensures.rule c.states.ensures.local in
+    let window_is = c.add_arg-command-3.ensures _ _ states_is c.window.ensures.rule c.window.ensures.local in
+    c.add_arg.ensures _ _ window_is c.image.ensures.rule c.image.ensures.local

@@ -1,0 +1,6 @@
+//! `rvtl fences`, over files and streams that the caller hands in.
+#![tactic(auto)]
+
+mod fencing;
+
+pub use fencing::fences_files;

@@ -1,0 +1,4 @@
+pub mod Adding
+pub mod Ends
+pub mod Machine
+pub mod Ordered

@@ -1,0 +1,80 @@
+-- The answer to a test by the states that were found.
+use Rattle.std.specs.Prelude.{ℕ, ◌≡◌, ◌&&◌, ◌||◌, Bool, true, false, All, IsTrue, List, ◌++◌, Ok, codes}
+use Rattle.std.specs.Global.{Vec}
+use Rattle.litmus_answers.specs.declared.layout.Layout.{Layout}
+use Rattle.litmus_answers.specs.declared.report.Report.{Report}
+use Rattle.litmus_answers.specs.declared.answer.Tally.{Tally}
+use Rattle.litmus_answers.specs.declared.answer.Answer.{Answer}
+use Rattle.litmus_answers.specs.declared.answer.Answer.TheVariants as answer
+use Rattle.litmus_text.specs.declared.question.Kind.{Kind}
+use Rattle.litmus_text.specs.declared.question.Kind.TheVariants.{Exists, NotExists, Forall}
+use Rattle.litmus_answers.specs.Answers.{answer_of, none, tally_on}
+use Rattle.litmus_answers.specs.Blocks.{block_text, brief_text, counts_text}
+use Rattle.litmus_text.specs.declared.test.Test.{Test}
+use Rattle.litmus_command.specs.declared.search.Findings.{Findings}
+use Rattle.litmus_command.specs.declared.states.Of.TheVariants as of
+use Rattle.litmus_command.specs.declared.program.Program.{Program}
+use Rattle.litmus_command.specs.Programs.{IsProgram}
+use Rattle.litmus_text.specs.Tests.{meaning, test_in}
+use Rattle.architecture_outcomes.specs.Outcomes.{IsWitnessed, TellsEachEnd}
+use Rattle.litmus_command.specs.States.{AreStates}
+
+-- of how many states the question's proposition holds
+abbrev pub tally_of : Test → Layout → List (Vec ℕ) → Tally
+tally_of test layout states = tally_on layout.names.items layout.told.items test.asking.steps.items none states
+
+-- what is told of a test's states, which are all or not: the answer is the meaning of its question over them
+pub record IsReport (test : Test) (layout : Layout) (rows : List (Vec ℕ)) (is_whole : Bool) (r : Report) : Type 0 where
+  pub name : r.name.now ≡ test.name
+  pub kind : r.kind ≡ test.asking.kind
+  pub question : r.question.now ≡ test.asking.text.items
+  pub names : r.names.now ≡ layout.names.items
+  pub told : r.told.now ≡ layout.told.items
+  pub states : r.states.now ≡ rows
+  pub whole : r.is_whole ≡ is_whole
+  pub tally : r.tally ≡ tally_of test layout rows
+  pub answer : r.answer ≡ answer_of test.asking.kind is_whole (tally_of test layout rows)
+
+-- in a line, how often the machine shows what is asked for
+abbrev pub machine_text : Test → Layout → List (Vec ℕ) → Bool → List ℕ
+machine_text test layout states has_machine = codes "   machine " ++ counts_text has_machine (tally_of test layout states)
+
+-- the text is a block; or a line, with how often the machine shows what is asked for where it isn't of the machine alone
+abbrev pub IsText : (brief machine : Bool) → Test → Layout → Findings → Report → (text : List ℕ) → Type 0
+IsText false machine test layout search r text = text ≡ block_text r
+IsText true true test layout search r text = text ≡ brief_text r ++ codes "\n"
+IsText true false test layout search r text =
+    (shown : List (Vec ℕ)) × AreStates layout test.asking.filter of.Machine search.outcomes.items shown × (text ≡ brief_text r ++ (machine_text test layout shown search.has_machine ++ codes "\n"))
+
+-- a state that was found settles an answer of this kind, whatever others there are
+abbrev pub settles : Kind → Answer → Bool
+settles Exists answer.Ok = true
+settles NotExists answer.Ok = false
+settles Forall answer.Ok = false
+settles Exists answer.No = false
+settles NotExists answer.No = true
+settles Forall answer.No = true
+settles kind answer.Undecided = false
+settles kind answer.NoRun = false
+
+-- a text answers a test by what a search found: each state that counts is told once, in order; the answer is proved where a state settles it, or where no state of the machine is missing and the machine's alone are asked for
+pub record Answers (brief machine : Bool) (test : Test) (layout : Layout) (search : Findings) (text : List ℕ) (is_proved : Bool) : Type 0 where
+  pub states : List (Vec ℕ)
+  pub are_states : AreStates layout test.asking.filter of.All search.outcomes.items states
+  pub report : Report
+  pub is_report : IsReport test layout states search.is_whole report
+  pub is_text : IsText brief machine test layout search report text
+  pub proved : is_proved ≡ (settles report.kind report.answer || (machine && search.is_whole))
+
+-- the text answers the test that bytes say, by runs of its program, where the machine's part is whole if it is said to be
+pub record AnswersTest (bytes : List ℕ) (brief machine : Bool) (text : List ℕ) (is_proved : Bool) : Type 0 where
+  pub test : Test
+  pub is_test : test_in bytes ≡ Ok (meaning test)
+  pub layout : Layout
+  pub program : Program
+  pub is_program : IsProgram layout program
+  pub search : Findings
+  pub shown : All (IsWitnessed program.image program.config layout.addresses.items) search.outcomes.items
+  pub each_told : IsTrue search.has_machine → TellsEachEnd program.image program.config layout.addresses.items search.outcomes.items
+  pub whole : IsTrue machine → IsTrue search.is_whole → IsTrue search.has_machine
+  pub answers : Answers brief machine test layout search text is_proved

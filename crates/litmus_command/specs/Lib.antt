@@ -1,0 +1,4 @@
+pub mod States
+pub mod Programs
+pub mod Answers
+pub mod Ended

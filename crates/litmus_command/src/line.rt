@@ -1,0 +1,356 @@
+//! The whole command.
+ghost use Rattle.std.specs.Prelude.{◌≡◌, ◌<◌, ◌≤◌, IfErr, IfOk, IfSome};
+ghost use Rattle.command_files.specs.Contents.{HoldsBytes};
+ghost use Rattle.litmus_command.specs.Ended as ends;
+
+use crate::ended::{Counts, Ended, final_status};
+use crate::fault::{Told, Trouble};
+use crate::files::names_in;
+use crate::logs::Logs;
+use crate::test::{Reply, answer_to};
+use crate::usage::{HELP, remedy};
+use crate::wanted::{Misuse, Request, Wanted, request_of};
+use command_files::{Escaped, Fault, Files, contents};
+use litmus_answers::{Entry, entries_of};
+use std::alloc::{AllocError, Global};
+use std::convert::AsStr;
+use std::io::Write;
+use text_fields::put;
+
+/// No more names are read, those of lists among them.
+const MOST_NAMES: u32 = 1_000_000;
+
+/// No more lists are read: a list may name itself.
+const MOST_LISTS: u32 = 1000;
+
+/// The bytes of a file; where they can't be read, that was told.
+fn read<F: Files, E: Write>(
+    alloc: Global,
+    files: &mut F,
+    name: &str,
+    err: &mut E,
+) -> Result<Vec<u8>, Ended>
+    ensures bytes { IfOk result (λ bytes. HoldsBytes (F.held files.old) name.now bytes.items) }
+    ensures stopped { IfErr result ends.IsUnread }
+    ensures stays { F.held files.new ≡ F.held files.old }
+{
+    match contents(alloc, files, name) {
+        Ok(bytes) => Ok(bytes),
+        Err(Fault::OutOfMemory) => Err(Ended::NoMemory),
+        Err(fault) => {
+            let _ = writeln!(err, "{fault}");
+            Err(Ended::Failed)
+        }
+    }
+}
+
+/// Tells why a file has no answer.
+fn refuse<E: Write>(name: &str, trouble: &Trouble, err: &mut E) -> Ended
+    ensures { ends.IsUnanswered result }
+{
+    if let Trouble::NoMemory = trouble {
+        return Ended::NoMemory;
+    }
+    let told = Told {
+        file: name,
+        trouble,
+    };
+    let _ = writeln!(err, "{told}");
+    if trouble.is_skipped() {
+        Ended::Skipped
+    } else {
+        Ended::Failed
+    }
+}
+
+/// Prints the answer to a test, unless it agrees with the logs that are named.
+fn print<O: Write>(alloc: Global, reply: &Reply, logs: &Logs, out: &mut O) -> Ended
+    ensures { ends.IsPrinted reply.now.is_proved result }
+{
+    let is_proved = reply.is_proved;
+    let mut ended = Ended::Answered { is_proved };
+    if logs.are_named() {
+        match logs.judge(alloc, &reply.text) {
+            Ok(true) => return ended,
+            Ok(false) => ended = Ended::Differs { is_proved },
+            Err(_) => return Ended::NoMemory,
+        }
+    }
+    match put(out, &reply.text) {
+        Ok(()) => ended,
+        Err(_) => Ended::Closed,
+    }
+}
+
+/// Answers the test of a file.
+#[tactic(auto, using(crate::proofs::Ends::unread, crate::proofs::Ends::unanswered, crate::proofs::Ends::answered))]
+fn answer_file<F: Files, O: Write, E: Write>(
+    alloc: Global,
+    files: &mut F,
+    name: &str,
+    wanted: Wanted<'_>,
+    logs: &Logs,
+    out: &mut O,
+    err: &mut E,
+) -> Ended
+    requires { 0 < wanted.states }
+    ensures end { ends.IsEnd (F.held files.old) wanted.entry.machine name.now result }
+    ensures stays { F.held files.new ≡ F.held files.old }
+{
+    let bytes = match read(alloc, files, name, err) {
+        Ok(bytes) => bytes,
+        Err(ended) => return ended,
+    };
+    match answer_to(alloc, &bytes, wanted) {
+        Ok(reply) => print(alloc, &reply, logs, out),
+        Err(trouble) => refuse(name, &trouble, err),
+    }
+}
+
+/// What a log has, if one is named.
+fn log_in<F: Files, E: Write>(
+    alloc: Global,
+    files: &mut F,
+    name: Option<&str>,
+    err: &mut E,
+) -> Result<Option<Vec<Entry>>, Ended>
+    ensures stays { F.held files.new ≡ F.held files.old }
+{
+    let Some(name) = name else {
+        return Ok(None);
+    };
+    let bytes = read(alloc, files, name, err)?;
+    match entries_of(alloc, &bytes) {
+        Ok(entries) => Ok(Some(entries)),
+        Err(_) => Err(Ended::NoMemory),
+    }
+}
+
+/// The logs that are named.
+fn logs_of<F: Files, E: Write>(
+    alloc: Global,
+    files: &mut F,
+    wanted: Wanted<'_>,
+    err: &mut E,
+) -> Result<Logs, Ended>
+    ensures stays { F.held files.new ≡ F.held files.old }
+{
+    let expect = log_in(alloc, files, wanted.expect, err)?;
+    let seen = log_in(alloc, files, wanted.seen, err)?;
+    Ok(Logs { expect, seen })
+}
+
+/// The names of a list go before those that wait.
+fn add_list<F: Files, E: Write>(
+    alloc: Global,
+    files: &mut F,
+    list: &str,
+    pending: &mut Vec<String>,
+    err: &mut E,
+) -> Result<(), Ended>
+    ensures stopped { IfErr result ends.IsUnread }
+    ensures stays { F.held files.new ≡ F.held files.old }
+{
+    let bytes = read(alloc, files, list, err)?;
+    let Ok(mut names) = names_in(alloc, list, &bytes) else {
+        return Err(Ended::NoMemory);
+    };
+    match pending.append(&mut names) {
+        Ok(()) => Ok(()),
+        Err(_) => Err(Ended::NoMemory),
+    }
+}
+
+/// The names, the last one first.
+fn pending_of(alloc: Global, names: &[&str]) -> Result<Vec<String>, AllocError> {
+    let mut pending = Vec::new(alloc);
+    for name in names {
+        pending.push(String::from_str(alloc, name)?)?;
+    }
+    pending.reverse();
+    Ok(pending)
+}
+
+/// Goes on with a name: reads a list's names, or answers the test of a file.
+#[tactic(auto, using(crate::proofs::Ends::unread))]
+fn take<F: Files, O: Write, E: Write>(
+    alloc: Global,
+    files: &mut F,
+    name: &str,
+    wanted: Wanted<'_>,
+    logs: &Logs,
+    pending: &mut Vec<String>,
+    lists: &mut u32,
+    out: &mut O,
+    err: &mut E,
+) -> Option<Ended>
+    requires states { 0 < wanted.states }
+    requires lists { lists.old ≤ 1000 }
+    ensures lists { lists.new ≤ 1000 }
+    ensures end { IfSome result (ends.IsEnd (F.held files.old) wanted.entry.machine name.now) }
+    ensures stays { F.held files.new ≡ F.held files.old }
+{
+    let Some(list) = name.strip_prefix("@") else {
+        return Some(answer_file(alloc, files, name, wanted, logs, out, err));
+    };
+    if *lists == MOST_LISTS {
+        let list = Escaped(list);
+        let _ = writeln!(err, "rvtl: {list}: more than {MOST_LISTS} lists");
+        return Some(Ended::Failed);
+    }
+    *lists += 1;
+    add_list(alloc, files, list, pending, err).err()
+}
+
+/// Answers the tests of the files that are named, and of those in lists; or the status with which the command ends
+/// before.
+#[tactic(auto, using(crate::proofs::Ends::none_counted, crate::proofs::Ends::one_counted, crate::proofs::Ends::unread_counted))]
+fn answer_all<F: Files, O: Write, E: Write>(
+    alloc: Global,
+    files: &mut F,
+    names: &[&str],
+    wanted: Wanted<'_>,
+    logs: &Logs,
+    out: &mut O,
+    err: &mut E,
+) -> Result<Counts, u8>
+    requires { 0 < wanted.states }
+    ensures counts { IfOk result (ends.AreCounted (F.held files.old) wanted.entry.machine) }
+    ensures stays { F.held files.new ≡ F.held files.old }
+{
+    let Ok(mut pending) = pending_of(alloc, names) else {
+        return Err(4);
+    };
+    let mut counts = Counts::none();
+    let mut lists = 0;
+    for _ in 0..MOST_NAMES {
+        let Some(name) = pending.pop() else {
+            break;
+        };
+        let name = name.as_str();
+        let took = take(
+            alloc,
+            files,
+            name,
+            wanted,
+            logs,
+            &mut pending,
+            &mut lists,
+            out,
+            err,
+        );
+        if let Some(ended) = took {
+            if let Some(status) = final_status(ended) {
+                return Err(status);
+            }
+            counts.count(ended);
+        }
+    }
+    if !pending.is_empty() {
+        let _ = writeln!(err, "rvtl: more than {MOST_NAMES} names of files and lists");
+        counts.count(Ended::Failed);
+    }
+    Ok(counts)
+}
+
+/// Tells what doesn't fit, or help.
+fn explain<O: Write, E: Write>(misuse: Misuse, out: &mut O, err: &mut E) -> u8 {
+    match misuse {
+        Misuse::Help => match put(out, HELP.as_bytes()) {
+            Ok(()) => match out.flush() {
+                Ok(()) => 0,
+                Err(_) => 1,
+            },
+            Err(_) => 1,
+        },
+        Misuse::NoMemory => {
+            let _ = writeln!(err, "rvtl: out of memory");
+            4
+        }
+        Misuse::Option | Misuse::Value | Misuse::NoFile => {
+            let remedy = remedy(misuse);
+            let _ = writeln!(
+                err,
+                "rvtl: litmus: {remedy} (rvtl litmus --help tells the usage)"
+            );
+            2
+        }
+    }
+}
+
+/// Tells how many tests were answered.
+fn conclude<E: Write>(counts: Counts, logs: &Logs, err: &mut E) {
+    let _ = writeln!(err, "note: {counts}");
+    if !logs.are_named() {
+        return;
+    }
+    let differing = counts.differing;
+    if differing == 0 {
+        let _ = writeln!(err, "note: all as in the logs");
+    } else {
+        let _ = writeln!(err, "note: {differing} not as in the logs");
+    }
+}
+
+/// Ends with a status other than that of the files, and says why.
+fn stop<E: Write>(status: u8, err: &mut E) -> u8
+    ensures { result ≡ status }
+{
+    let why = if status == 4 {
+        "out of memory"
+    } else {
+        "cannot write"
+    };
+    let _ = writeln!(err, "rvtl: {why}");
+    status
+}
+
+/// Does what is asked for.
+#[tactic(auto, using(crate::proofs::Ends::all_answered))]
+fn answer<F: Files, O: Write, E: Write>(
+    alloc: Global,
+    files: &mut F,
+    request: Request<'_>,
+    out: &mut O,
+    err: &mut E,
+) -> u8
+    requires { 0 < request.wanted.states }
+    ensures done { result ≡ 0 → ends.AllAnswered (F.held files.old) request.entry.wanted.machine }
+    ensures stays { F.held files.new ≡ F.held files.old }
+{
+    let Request { mut wanted, names } = request;
+    let logs = match logs_of(alloc, files, wanted, err) {
+        Ok(logs) => logs,
+        Err(Ended::NoMemory) => return stop(4, err),
+        Err(_) => return 1,
+    };
+    // Blocks are compared.
+    wanted.brief = wanted.brief && !logs.are_named();
+    let counts = match answer_all(alloc, files, &names, wanted, &logs, out, err) {
+        Ok(counts) => counts,
+        Err(status) => return stop(status, err),
+    };
+    if out.flush().is_err() {
+        return stop(1, err);
+    }
+    conclude(counts, &logs, err);
+    counts.status()
+}
+
+/// Does what the words behind `litmus` ask for, and answers the exit status: 0 where each file has a test that was answered
+/// or is skipped, 1 where one can't be read or has none, or standard output takes no more, 2 for words that don't fit,
+/// 3 where an answer isn't as the logs have it, 4 out of memory.
+pub fn litmus_line<S: AsStr, F: Files, O: Write, E: Write>(
+    alloc: Global,
+    words: &[S],
+    files: &mut F,
+    out: &mut O,
+    err: &mut E,
+) -> u8
+    ensures stays { F.held files.new ≡ F.held files.old }
+{
+    match request_of(alloc, words) {
+        Ok(request) => answer(alloc, files, request, out, err),
+        Err(misuse) => explain(misuse, out, err),
+    }
+}

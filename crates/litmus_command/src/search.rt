@@ -1,0 +1,123 @@
+//! The ends to which a test's program comes.
+ghost use Rattle.std.specs.Prelude.{◌≡◌, ◌<◌, All, IfOk, IsTrue, map};
+ghost use Rattle.architecture_outcomes.specs.Outcomes.{IsWitnessed, TellsEachEnd, of_found};
+ghost use Rattle.explorer.specs.Words.{CanShowEach};
+
+use crate::program::Program;
+use crate::wanted::Wanted;
+use architecture_outcomes::{Outcome, Way, explore_architecture};
+use explorer::{Exploration, Exploring, Found, explore};
+use state_search::Unwatched;
+use std::alloc::{AllocError, Global};
+use std::mem;
+use window_search::Reach;
+
+/// What was found of a program.
+#[derive(Drop)]
+pub(crate) struct Findings {
+    /// The ends that were sought, those of the model or those of the machine.
+    pub outcomes: Vec<Outcome>,
+    /// Whether the search left none of them out.
+    pub is_whole: bool,
+    /// Whether none that the machine comes to is missing.
+    pub has_machine: bool,
+}
+
+/// The ends as outcomes to which the machine comes.
+fn of_machine(alloc: Global, found: Vec<Found>) -> Result<Vec<Outcome>, AllocError>
+    ensures { IfOk result (λ outcomes. outcomes.items ≡ map of_found found.items) }
+{
+    let mut outcomes = Vec::new(alloc);
+    for Found {
+        harts,
+        words,
+        script,
+    } in found {
+        outcomes.push(Outcome {
+            harts,
+            words,
+            way: Way::Machine(script),
+        })?;
+    }
+    Ok(outcomes)
+}
+
+/// What the machine comes to.
+fn search_machine(
+    alloc: Global,
+    program: &Program,
+    addresses: &[u32],
+    exploring: Exploring,
+) -> Result<Findings, AllocError>
+    requires room { 0 < exploring.limit }
+    requires words { CanShowEach program.now.image addresses.now }
+    ensures shown { IfOk result (λ s. All (IsWitnessed program.now.image program.now.config addresses.now) s.outcomes.items) }
+    ensures machine { IfOk result (λ s. IsTrue s.has_machine → TellsEachEnd program.now.image program.now.config addresses.now s.outcomes.items) }
+    ensures whole { IfOk result (λ s. IsTrue s.is_whole → IsTrue s.has_machine) }
+{
+    let Program { image, config } = program;
+    let Exploration {
+        outcomes,
+        extent,
+        ..
+    } = explore(alloc, image, *config, addresses, exploring, &Unwatched)?;
+    let has_machine = extent.is_complete();
+    Ok(Findings {
+        outcomes: of_machine(alloc, outcomes)?,
+        is_whole: has_machine,
+        has_machine,
+    })
+}
+
+/// What the memory model allows.
+fn search_model(
+    alloc: Global,
+    program: &Program,
+    addresses: &[u32],
+    exploring: Exploring,
+    window: u32,
+) -> Result<Findings, AllocError>
+    requires room { 0 < exploring.limit }
+    requires words { CanShowEach program.now.image addresses.now }
+    ensures shown { IfOk result (λ s. All (IsWitnessed program.now.image program.now.config addresses.now) s.outcomes.items) }
+    ensures machine { IfOk result (λ s. IsTrue s.has_machine → TellsEachEnd program.now.image program.now.config addresses.now s.outcomes.items) }
+{
+    let Program { image, config } = program;
+    let mut found = explore_architecture(
+        alloc, image, *config, addresses, window, exploring, &Unwatched,
+    )?;
+    let outcomes = mem::replace(&mut found.outcomes, Vec::new(alloc));
+    Ok(Findings {
+        outcomes,
+        is_whole: found.reach == Reach::Whole,
+        has_machine: found.machine.is_complete(),
+    })
+}
+
+/// The ends that are wanted of a program, with the words of memory at these addresses.
+pub(crate) fn search(
+    alloc: Global,
+    program: &Program,
+    addresses: &[u32],
+    wanted: Wanted<'_>,
+) -> Result<Findings, AllocError>
+    requires room { 0 < wanted.states }
+    requires words { CanShowEach program.now.image addresses.now }
+
+    // Each end is a run's, and what shows it does.
+    ensures shown { IfOk result (λ s. All (IsWitnessed program.now.image program.now.config addresses.now) s.outcomes.items) }
+
+    // Where none of the machine's is said to be missing, none is.
+    ensures machine { IfOk result (λ s. IsTrue s.has_machine → TellsEachEnd program.now.image program.now.config addresses.now s.outcomes.items) }
+    ensures whole { IfOk result (λ s. IsTrue wanted.entry.machine → IsTrue s.is_whole → IsTrue s.has_machine) }
+{
+    let exploring = Exploring {
+        limit: wanted.states,
+        shortened: false,
+    };
+    if wanted.machine {
+        search_machine(alloc, program, addresses, exploring)
+    } else {
+        search_model(alloc, program, addresses, exploring, wanted.window)
+    }
+}
