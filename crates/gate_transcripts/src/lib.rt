@@ -47,7 +47,7 @@ use std::rt::Files;
 use std::sync::Wait;
 use std::thread::Threads;
 
-static TRANSCRIPTS: [&str; 9] = [
+static TRANSCRIPTS: [&str; 10] = [
     "replaying",
     "drawing",
     "explaining",
