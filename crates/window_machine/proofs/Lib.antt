@@ -24,6 +24,7 @@ pub mod Pinning
 pub mod Placements
 pub mod Retiring
 pub mod Seen
+pub mod Showing
 pub mod Shutting
 pub mod Storing
 pub mod Unpairing

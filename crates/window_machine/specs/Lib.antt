@@ -13,6 +13,7 @@ pub mod Pinning
 pub mod Placements
 pub mod Places
 pub mod Seeing
+pub mod Showing
 pub mod Smaller
 pub mod Stores
 pub mod Windows

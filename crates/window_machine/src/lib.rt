@@ -16,6 +16,7 @@ mod reserved;
 mod rows;
 mod seeing;
 mod sets;
+mod showing;
 mod smaller;
 mod waiting;
 mod waits;
