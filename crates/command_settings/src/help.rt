@@ -146,7 +146,10 @@ The line behind them tells orderings that are enough together: from all, one aft
 addresses, and then each FENCE made weaker, where the outcomes stayed the same; none of those told can be
 left out. Another order may leave others. The last line is
   searched: N orderings, P programs, M outcomes of the program as it is, no window over W (not proved complete)
-or undecided: the program as it is, and the bound that its search met. A word of data that looks like such an
+or undecided: the program as it is, and the bound that its search met. With --allow each program is to have none
+but the outcomes of the file. Where the program as it is has another, the status is 3, and what is missing is
+told: words that may order more (a FENCE, an LR, SC or AMO, and addi x0, x0, 0, which may become a FENCE) and
+what they have to be for no other outcome to come. A word of data that looks like such an
 instruction counts as one. What is told holds of so many harts, and of this program's own data.
 
 Example: rvtl fences --harts 2 examples/mcs_lock.elf";

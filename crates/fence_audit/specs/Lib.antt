@@ -1,3 +1,4 @@
+pub mod Adding
 pub mod Answers
 pub mod Auditing
 pub mod Searches

@@ -76,7 +76,11 @@ fn spell_number(into: &mut Vec<u8>, number: u64) -> Result<(), AllocError>
 }
 
 /// A number and what it counts.
-fn spell_counted(into: &mut Vec<u8>, number: usize, what: &[u8]) -> Result<(), AllocError>
+pub(crate) fn spell_counted(
+    into: &mut Vec<u8>,
+    number: usize,
+    what: &[u8],
+) -> Result<(), AllocError>
     ensures { OnOk result (into.new.items ≡ into.old.items ++ text.counted number what.now) }
 {
     spell_number(into, number as u64)?;
@@ -94,7 +98,11 @@ fn spell_counts(into: &mut Vec<u8>, audit: &Audit) -> Result<(), AllocError>
     Ok(())
 }
 
-fn spell_window(into: &mut Vec<u8>, outcomes: usize, window: u32) -> Result<(), AllocError>
+pub(crate) fn spell_window(
+    into: &mut Vec<u8>,
+    outcomes: usize,
+    window: u32,
+) -> Result<(), AllocError>
     ensures { OnOk result (into.new.items ≡ into.old.items ++ text.window_text outcomes window) }
 {
     spell_counted(
@@ -107,7 +115,7 @@ fn spell_window(into: &mut Vec<u8>, outcomes: usize, window: u32) -> Result<(), 
 
 // ---- words of a line
 
-fn spell_word(into: &mut Vec<u8>, word: Option<u32>) -> Result<(), AllocError>
+pub(crate) fn spell_word(into: &mut Vec<u8>, word: Option<u32>) -> Result<(), AllocError>
     ensures { OnOk result (into.new.items ≡ into.old.items ++ text.word_text word) }
 {
     let Some(word) = word else {
@@ -134,7 +142,7 @@ fn spell_part(into: &mut Vec<u8>, part: Part) -> Result<(), AllocError>
 }
 
 /// What a search left out.
-fn spell_bound(into: &mut Vec<u8>, reach: Reach, window: u32) -> Result<(), AllocError>
+pub(crate) fn spell_bound(into: &mut Vec<u8>, reach: Reach, window: u32) -> Result<(), AllocError>
     ensures { OnOk result (into.new.items ≡ into.old.items ++ text.bound_text reach window) }
 {
     match reach {
@@ -285,7 +293,11 @@ fn spell_named(
 }
 
 /// The symbol of an address, with a space behind it, if it has one.
-fn spell_symbol(into: &mut Vec<u8>, symbols: &Symbols, address: u32) -> Result<(), AllocError>
+pub(crate) fn spell_symbol(
+    into: &mut Vec<u8>,
+    symbols: &Symbols,
+    address: u32,
+) -> Result<(), AllocError>
     ensures { OnOk result (into.new.items ≡ into.old.items ++ place_before (nearest symbols.now address)) }
 {
     let Some(place) = symbols.nearest(address) else {
@@ -349,7 +361,7 @@ fn spell_answer(
 }
 
 /// What is said of an outcome, and the outcome at a place.
-fn spell_at(
+pub(crate) fn spell_at(
     alloc: Global,
     into: &mut Vec<u8>,
     what: &[u8],
@@ -430,7 +442,7 @@ fn spell_forms(
     Ok(())
 }
 
-fn answer_in(searches: &[Search], patches: &[Patch]) -> Option<Answer>
+pub(crate) fn answer_in(searches: &[Search], patches: &[Patch]) -> Option<Answer>
     ensures { result ≡ answer_in searches.now patches.now }
 {
     let search = search_in(searches, patches)?;
@@ -468,7 +480,7 @@ fn spell_last(alloc: Global, into: &mut Vec<u8>, audit: &Audit) -> Result<(), Al
     Ok(())
 }
 
-fn spell_minimal(into: &mut Vec<u8>, is_minimal: bool) -> Result<(), AllocError>
+pub(crate) fn spell_minimal(into: &mut Vec<u8>, is_minimal: bool) -> Result<(), AllocError>
     ensures { OnOk result (into.new.items ≡ into.old.items ++ text.minimal_text is_minimal) }
 {
     if is_minimal {
