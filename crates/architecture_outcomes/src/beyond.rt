@@ -5,13 +5,10 @@ ghost use Rattle.std.specs.List.Sorted.{IsStrictlySortedBy};
 ghost use Rattle.std.specs.Ordering.{on};
 ghost use Rattle.architecture_outcomes.specs.Outcomes.{IsDecided, IsWitnessed, TellOnce, end_of, ends_of, tells};
 ghost use Rattle.flat_machine.specs.Onward.{are_aligned};
-ghost use Rattle.window_model.specs.Complete.{TellsEachAllowed};
 ghost use Rattle.window_search.specs.Openings.{NeverOpens};
-ghost use Rattle.window_search.specs.Told.{endings_of};
 ghost use Rattle.witnesses.specs.Witnesses.{IsWitness};
 ghost use Rattle.explorer.specs.Outcomes.{HasEachEnd};
 ghost use Rattle.explorer.specs.Ranks.{outcome_cmp};
-ghost use Rattle.explorer.specs.Words.{CanShowEach};
 
 use crate::outcome::Outcome;
 use elf_loader::Image;
@@ -32,8 +29,6 @@ pub(crate) fn search_model<W: Watch>(
     limit: u32,
     watch: &W,
 ) -> Allowed
-    requires words { CanShowEach image.now addresses.now }
-    ensures allowed { result.reach ≡ Reach.Whole → TellsEachAllowed image.now config addresses.now (endings_of addresses.now result.witnesses.items) }
     ensures witnessed { All (IsWitness image.now config) result.witnesses.items }
     ensures opens { result.reach ≡ Reach.Whole → result.states ≡ 0 → NeverOpens image.now config }
     ensures bounded { result.reach ≢ Reach.LimitMet → result.reach ≢ Reach.OutOfMemory → result.states ≤ limit }

@@ -1,4 +1,3 @@
-pub mod Failures
 pub mod Sampling
 pub mod Text
 pub mod Words

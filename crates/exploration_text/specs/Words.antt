@@ -2,7 +2,6 @@
 use Rattle.std.specs.Prelude.{ℕ, ◌+◌, List, [], ◌∷◌, ◌++◌, codes, decimal, length}
 use Rattle.exploration_text.specs.declared.wording.WordName.{WordName}
 use Rattle.exploration_text.specs.declared.wording.WordName.TheVariants.{Address, Symbol}
-use Rattle.exploration_text.specs.Failures.{failure_lines}
 use Rattle.exploration_text.specs.Text.{harts_text, last_line, stuck_line}
 use Rattle.flat_exploration.specs.Outcomes.{Outcome}
 use Rattle.text_fields.specs.Fields.{word}
@@ -37,6 +36,4 @@ end_lines names number (o ∷ os) = end_line names number o ++ end_lines names (
 
 -- where words of memory are called so
 abbrev pub exploration_text : List WordName → Exploration → List ℕ
-exploration_text names e =
-    end_lines names 1 (outcomes_of e.outcomes.items)
-    ++ (failure_lines 1 e.failures.items ++ (stuck_line e.stuck ++ last_line e.extent (length e.outcomes.items) (length e.failures.items) e.states))
+exploration_text names e = end_lines names 1 (outcomes_of e.outcomes.items) ++ (stuck_line e.stuck ++ last_line e.extent (length e.outcomes.items) e.states)

@@ -1,7 +1,6 @@
 //! What is found of a program, as the lines that are printed.
 #![tactic(auto)]
 
-mod failures;
 mod sampling;
 mod spelling;
 mod wording;

@@ -26,7 +26,6 @@ use Rattle.std.specs.List.Sorted.{IsStrictlySortedBy}
 use Rattle.std.specs.Ordering.{on}
 use Rattle.std.specs.declared.alloc.AllocError.{AllocError}
 use Rattle.explorer.specs.Ends.{IsRealIn, outcomes_of}
-use Rattle.explorer.specs.Failures.{AreOnce, HasEachFailure, IsRealFailure, failures_of}
 use Rattle.explorer.specs.Outcomes.{CanAlwaysEnd, HasEachEnd}
 use Rattle.explorer.specs.Ranks.{outcome_cmp}
 use Rattle.explorer.specs.Stuck.{IsStuckIn}
@@ -76,7 +75,7 @@ module _ (held : Contents) (wanted : Explore) (config : Config) (image : Initial
   has P so = record { image = image; exploration = found; image_file = file; inside = inside; found = is_found; of_text = so }
 
   pub whole : (old new : Option (List ℕ)) (left : Contents) (judgement : Judgement) → Appends old new (exploration_text [] found) → HasName wanted.scripts → IfSome wanted.scripts (λ folder. AreKept left config wanted.machine.memory folder.now found)
-      → SparesOthers (IsInNamed wanted.scripts (IsScriptOf (length found.outcomes.items) (length found.failures.items) found.stuck)) held left
+      → SparesOthers (IsInNamed wanted.scripts (IsScriptOf (length found.outcomes.items) found.stuck)) held left
       → IsJudged held wanted.allow (map (λ f. end_text [] (outcome_of f)) found.outcomes.items) (exploration_fails wanted.fail_on found) judgement → (judgement ≡ Allowed → found.extent ≢ extent.OutOfMemory) → IsExplorationTold held left wanted judgement old new
   whole old new left judgement told named kept spares by memory = record {
     image = image;
@@ -105,7 +104,6 @@ memory_told held explore fault is = subst (IsExploreFault held explore) (sym is)
 -- what is said of it, fact by fact
 pub found_in : (image : Initial) (config : Config) (addresses : List ℕ) (limit : ℕ) (r : Result Exploration AllocError) → IfOk r (λ e. All (IsRealIn image config addresses) e.outcomes.items) → IfOk r (λ e. e.extent ≡ extent.Complete → HasEachEnd image config addresses (outcomes_of e.outcomes.items))
     → IfOk r (λ e. e.extent ≡ extent.Complete → e.stuck ≡ None → CanAlwaysEnd image config addresses) → IfOk r (λ e. e.extent ≡ extent.Complete → e.stuck ≡ None → e.outcomes.items ≢ []) → IfOk r (λ e. IfSome e.stuck (IsStuckIn image config addresses))
-    → IfOk r (λ e. IsStrictlySortedBy (on outcome_of outcome_cmp) e.outcomes.items) → IfOk r (λ e. e.states ≤ limit) → IfOk r (λ e. e.extent ≡ extent.LimitMet → e.states ≡ limit) → IfOk r (λ e. (states : List Flat) × AreVisited image config addresses e states)
-    → IfOk r (λ e. All (IsRealFailure image config) e.failures.items) → IfOk r (λ e. AreOnce (failures_of e.failures.items)) → IfOk r (λ e. e.extent ≡ extent.Complete → HasEachFailure image config (failures_of e.failures.items)) → IfOk r (IsFoundIn image config addresses limit)
-found_in image config addresses limit (Ok e) real complete none_stuck some stuck order within full visited failures once each_failure = record { real = real; complete = complete; none_stuck = none_stuck; some = some; stuck = stuck; order = order; within = within; full = full; visited = visited; failures = failures; failures_once = once; each_failure = each_failure }
-found_in image config addresses limit (Err error) real complete none_stuck some stuck order within full visited failures once each_failure = tt
+    → IfOk r (λ e. IsStrictlySortedBy (on outcome_of outcome_cmp) e.outcomes.items) → IfOk r (λ e. e.states ≤ limit) → IfOk r (λ e. e.extent ≡ extent.LimitMet → e.states ≡ limit) → IfOk r (λ e. (states : List Flat) × AreVisited image config addresses e states) → IfOk r (IsFoundIn image config addresses limit)
+found_in image config addresses limit (Ok e) real complete none_stuck some stuck order within full visited = record { real = real; complete = complete; none_stuck = none_stuck; some = some; stuck = stuck; order = order; within = within; full = full; visited = visited }
+found_in image config addresses limit (Err error) real complete none_stuck some stuck order within full visited = tt

@@ -75,7 +75,7 @@ module _ (held : Contents) (show : Show) (config : Config) (image : Initial) (ad
 
   -- all of it was done
   pub shown : (old new : Option (List ℕ)) (left : Contents) (judgement : Judgement) (text : Option (List ℕ)) → Appends old new (exploration_text names found) → HasName show.explore.scripts → IfSome show.explore.scripts (λ folder. AreKept left config show.explore.machine.memory folder.now found)
-      → SparesOthers (IsInNamed show.explore.scripts (IsScriptOf (length found.outcomes.items) (length found.failures.items) found.stuck)) held left → IsAllowFile held show.explore.allow text
+      → SparesOthers (IsInNamed show.explore.scripts (IsScriptOf (length found.outcomes.items) found.stuck)) held left → IsAllowFile held show.explore.allow text
       → judgement ≡ judgement_of_lines text (map (λ f. end_text names (outcome_of f)) found.outcomes.items) (exploration_fails show.explore.fail_on found) → (judgement ≡ Allowed → found.extent ≢ extent.OutOfMemory) → AreWordsShown held left show judgement old new
   unfolding of_file
   shown old new left judgement text printed folder kept spares read by whole = record {

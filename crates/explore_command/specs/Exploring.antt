@@ -1,5 +1,5 @@
 -- What an exploration has told, written and judged, and which faults it tells.
-use Rattle.std.specs.Prelude.{◌≡◌, ◌≢◌, ◌⊎◌, ◌≤◌, ◌==◌, ◌||◌, Bool, ℕ, [], All, IfSome, List, is_some, length, map, None, not, Option, Some}
+use Rattle.std.specs.Prelude.{◌≡◌, ◌≢◌, ◌⊎◌, ◌≤◌, ℕ, [], All, IfSome, List, is_some, length, map, None, not, Option, Some}
 use Rattle.std.specs.Io.KnownBytes.{Appends}
 use Rattle.std.specs.List.Sorted.{IsStrictlySortedBy}
 use Rattle.std.specs.Ordering.{on}
@@ -17,7 +17,6 @@ use Rattle.explore_command.specs.Keeping.{AreKept, HasName, IsInNamed, IsScriptO
 use Rattle.explore_command.specs.declared.judging.Judgement.{Judgement}
 use Rattle.explore_command.specs.declared.judging.Judgement.TheVariants.{Allowed}
 use Rattle.explorer.specs.Ends.{IsRealIn, outcome_of, outcomes_of}
-use Rattle.explorer.specs.Failures.{AreOnce, HasEachFailure, IsRealFailure, failures_of}
 use Rattle.explorer.specs.Outcomes.{CanAlwaysEnd, HasEachEnd}
 use Rattle.explorer.specs.Ranks.{outcome_cmp}
 use Rattle.explorer.specs.Stuck.{IsStuckIn}
@@ -29,19 +28,14 @@ use Rattle.state_search.specs.declared.findings.Extent.TheVariants.{Complete, Li
 use Rattle.state_search.specs.declared.findings.Extent.TheVariants as extent
 use Rattle.text_fields.specs.Writing.{Begins}
 
--- it tells a hart that stops, whatever the other harts do then
-abbrev pub tells_failures : Exploration → Bool
-tells_failures found = not (length found.failures.items == 0)
-
 -- what else it came to that it may not
 abbrev pub exploration_fails : Option Name → Exploration → List ℕ
-exploration_fails list found = fail_lines list (tells_failures found || have_failure (map (λ f. (outcome_of f).results) found.outcomes.items)) (is_some found.stuck) (not (is_complete found.extent))
+exploration_fails list found = fail_lines list (have_failure (map (λ f. (outcome_of f).results) found.outcomes.items)) (is_some found.stuck) (not (is_complete found.extent))
 
 -- ---- what is found
 
 -- each end is a flat run's, with the words at these addresses, and its script, where there is one, leads there; where it says complete no end is missing, and where nothing is stuck each flat run can go on to an end, and one is told;
--- the ends stand in their order, each once; there are states, no more than the limit, as many as it says, that were found;
--- each failure is a flat run's, and its script, where there is one, leads there; none is told twice, and where it says complete none is missing, whatever the other harts do then
+-- the ends stand in their order, each once; there are states, no more than the limit, as many as it says, that were found
 pub record IsFoundIn (image : Initial) (config : Config) (addresses : List ℕ) (limit : ℕ) (found : Exploration) : Type 0 where
   pub real : All (IsRealIn image config addresses) found.outcomes.items
   pub complete : found.extent ≡ Complete → HasEachEnd image config addresses (outcomes_of found.outcomes.items)
@@ -52,9 +46,6 @@ pub record IsFoundIn (image : Initial) (config : Config) (addresses : List ℕ) 
   pub within : found.states ≤ limit
   pub full : found.extent ≡ LimitMet → found.states ≡ limit
   pub visited : (states : List Flat) × AreVisited image config addresses found states
-  pub failures : All (IsRealFailure image config) found.failures.items
-  pub failures_once : AreOnce (failures_of found.failures.items)
-  pub each_failure : found.extent ≡ Complete → HasEachFailure image config (failures_of found.failures.items)
 
 -- what was found of the image in the file was printed, its scripts are in the folder, if one was named, and each other file is as before, and it was judged by the file that says what is allowed; it is allowed only where memory sufficed for all states, or for as many as were asked for
 pub record IsExplorationTold (held left : Contents) (wanted : Explore) (judgement : Judgement) (old new : Option (List ℕ)) : Type 0 where
@@ -66,7 +57,7 @@ pub record IsExplorationTold (held left : Contents) (wanted : Explore) (judgemen
   pub printed : Appends old new (exploration_text [] exploration)
   pub named : HasName wanted.scripts
   pub kept : IfSome wanted.scripts (λ folder. AreKept left (config_named wanted.machine inside) wanted.machine.memory folder.now exploration)
-  pub spared : SparesOthers (IsInNamed wanted.scripts (IsScriptOf (length exploration.outcomes.items) (length exploration.failures.items) exploration.stuck)) held left
+  pub spared : SparesOthers (IsInNamed wanted.scripts (IsScriptOf (length exploration.outcomes.items) exploration.stuck)) held left
   pub judged : IsJudged held wanted.allow (map (λ f. end_text [] (outcome_of f)) exploration.outcomes.items) (exploration_fails wanted.fail_on exploration) judgement
   pub whole : judgement ≡ Allowed → exploration.extent ≢ extent.OutOfMemory
 

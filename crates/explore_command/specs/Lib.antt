@@ -1,3 +1,4 @@
+pub mod Allowing
 pub mod Exploring
 pub mod Judging
 pub mod Keeping
@@ -9,4 +10,5 @@ pub mod ModelKeeping
 pub mod Searching
 pub mod Telling
 pub mod Passing
+pub mod Patterns
 pub mod Sparing

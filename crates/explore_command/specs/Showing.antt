@@ -39,7 +39,7 @@ pub record AreWordsShown (held left : Contents) (show : Show) (judgement : Judge
   pub printed : Appends old new (exploration_text (names_of show.words.items) exploration)
   pub named : HasName show.explore.scripts
   pub kept : IfSome show.explore.scripts (λ folder. AreKept left (config_named show.explore.machine of_file.inside) show.explore.machine.memory folder.now exploration)
-  pub spared : SparesOthers (IsInNamed show.explore.scripts (IsScriptOf (length exploration.outcomes.items) (length exploration.failures.items) exploration.stuck)) held left
+  pub spared : SparesOthers (IsInNamed show.explore.scripts (IsScriptOf (length exploration.outcomes.items) exploration.stuck)) held left
   pub judged : IsJudged held show.explore.allow (map (λ f. end_text (names_of show.words.items) (outcome_of f)) exploration.outcomes.items) (exploration_fails show.explore.fail_on exploration) judgement
   pub whole : judgement ≡ Allowed → exploration.extent ≢ extent.OutOfMemory
 

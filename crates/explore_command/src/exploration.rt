@@ -1,7 +1,6 @@
 //! An exploration, as it is told, judged and kept.
 
 ghost use Rattle.std.specs.Prelude.{◌≡◌, ◌≢◌, [], is_some, length, not};
-ghost use Rattle.explore_command.specs.Exploring.{tells_failures};
 ghost use Rattle.explore_command.specs.Judging.{is_complete};
 ghost use Rattle.explore_command.specs.Keeping.{AreKept, IsScriptOf};
 ghost use Rattle.exploration_text.specs.Words.{end_text, exploration_text};
@@ -29,8 +28,6 @@ impl Findings for Exploration {
 
     ghost harts = { λ f. (outcome_of f).results };
 
-    ghost has_failures = { tells_failures };
-
     ghost is_stuck = { λ e. is_some e.stuck };
 
     ghost is_incomplete = { λ e. not (is_complete e.extent) };
@@ -55,10 +52,6 @@ impl Findings for Exploration {
         &outcome.harts
     }
 
-    fn has_failures(&self) -> bool {
-        !self.failures.is_empty()
-    }
-
     fn is_stuck(&self) -> bool {
         self.stuck.is_some()
     }
@@ -77,7 +70,7 @@ impl Keepable for Exploration {
 
     ghost AreKept = { λ e left config kib folder. AreKept left config kib folder e };
 
-    ghost IsFileOf = { λ e. IsScriptOf (length e.outcomes.items) (length e.failures.items) e.stuck };
+    ghost IsFileOf = { λ e. IsScriptOf (length e.outcomes.items) e.stuck };
 
     fn keep_in<'a, F: Files>(&self, folder: Folder<'a>, files: &mut F) -> Result<(), Fault<'a>> {
         folder.keep(files, self)

@@ -9,9 +9,8 @@ use std::fmt::{self, Display, Formatter};
 use std::str;
 
 /// How lines begin that `explore` prints behind outcomes.
-const CLOSING: [&str; 7] = [
+const CLOSING: [&str; 6] = [
     "complete: ",
-    "failure ",
     "incomplete: ",
     "searched: ",
     "sampled: ",

@@ -7,4 +7,3 @@ mod Patched
 mod Performed
 mod Ends
 mod Counting
-mod Noted

@@ -8,5 +8,4 @@ pub mod Visited
 pub mod Told
 pub mod FinalWords
 pub mod Words
-pub mod Failures
 pub mod Sampled

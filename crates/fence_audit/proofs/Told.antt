@@ -7,7 +7,6 @@ use Rattle.std.proofs.lemmas.Bool.{false≢true}
 use Rattle.std.proofs.lemmas.Bool.Decides.{Decides-eqb}
 use Rattle.std.specs.Cmp.Lexicographic.{pointwise}
 use Rattle.elf_loader.specs.Image.{Initial, word_at}
-use Rattle.fence_audit.specs.Adding.{IsAddition, IsReverted}
 use Rattle.fence_audit.specs.Auditing.{AreWeighed, AreWeighedBy, HasEnoughBelow, IsEnough, IsLeftOut, IsReduction, IsSame, IsWeighed, is_below}
 use Rattle.std.specs.declared.alloc.AllocError.{AllocError}
 use Rattle.fence_audit.specs.declared.searches.Asking.{Asking}
@@ -123,10 +122,6 @@ pub each_are_weighed_stay : (image : Initial) (old new : List Search) (patches :
 each_are_weighed_stay image old new patches orderings grown all =
     All-weaker (AreWeighed image old patches) (AreWeighed image new patches) (λ o is. are_weighed_stay image old new patches o grown is) orderings all
 
-pub each_reverted_stays : (old new : List Search) (patches own : List Patch) → Grows old new → All (IsReverted old patches) own → All (IsReverted new patches) own
-each_reverted_stays old new patches own grown all =
-    All-weaker (IsReverted old patches) (IsReverted new patches) (λ p is. asked_stays old new (patches_with p.address p.word patches) grown is) own all
-
 pub enough_stays : (own : List Patch) (old new : List Search) (patches : List Patch) → Grows old new → IsEnough own old patches → IsEnough own new patches
 enough_stays own old new patches grown (inl is) = inl is
 enough_stays own old new patches grown (inr is) = inr (answer_stays old new patches Same grown is)
@@ -167,14 +162,4 @@ reduction asking orderings own last last' first second third all alone one weigh
   weighed = each_are_weighed_stay asking.question.image.now second all own orderings (grows_on second third all two three) weighed;
   enough = enough_stays own third all last three enough;
   each = subst (λ (patches : List Patch). All (IsLeftOut all patches) orderings) is each;
-}
-
--- the searches of programs with more orderings: all of them, which is enough, and then fewer
-pub addition : (asking : Asking) (own most last : List Patch) (first all : List Search) → answer_in first most ≡ Some Same → Grows first all → IsEnough most all last
-    → All (IsReverted all last) own → AreSearched asking all → IsAddition asking own most all last
-addition asking own most last first all same grown enough each searched = record {
-  searched = searched;
-  asked = asked_stays first all most grown (answered first most Same same);
-  enough = enough;
-  each = λ is. each;
 }

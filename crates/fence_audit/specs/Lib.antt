@@ -1,4 +1,3 @@
-pub mod Adding
 pub mod Answers
 pub mod Auditing
 pub mod Searches

@@ -2,15 +2,12 @@
 //! with weaker FENCEs, and with as few as are enough.
 #![tactic(auto)]
 
-mod adding;
-mod allowing;
 mod answers;
 mod auditing;
 mod reducing;
 mod searches;
 mod weighing;
 
-pub use allowing::{Allowance, Missing, audit_allowed};
-pub use answers::{Answer, Standard, is_whole};
+pub use answers::{Answer, is_whole};
 pub use auditing::{Audit, audit_program};
 pub use searches::{Question, Search, search_in};

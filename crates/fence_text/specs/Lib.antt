@@ -1,2 +1,1 @@
-pub mod Lacking
 pub mod Text

@@ -76,11 +76,7 @@ fn spell_number(into: &mut Vec<u8>, number: u64) -> Result<(), AllocError>
 }
 
 /// A number and what it counts.
-pub(crate) fn spell_counted(
-    into: &mut Vec<u8>,
-    number: usize,
-    what: &[u8],
-) -> Result<(), AllocError>
+fn spell_counted(into: &mut Vec<u8>, number: usize, what: &[u8]) -> Result<(), AllocError>
     ensures { OnOk result (into.new.items ≡ into.old.items ++ text.counted number what.now) }
 {
     spell_number(into, number as u64)?;
@@ -98,11 +94,7 @@ fn spell_counts(into: &mut Vec<u8>, audit: &Audit) -> Result<(), AllocError>
     Ok(())
 }
 
-pub(crate) fn spell_window(
-    into: &mut Vec<u8>,
-    outcomes: usize,
-    window: u32,
-) -> Result<(), AllocError>
+fn spell_window(into: &mut Vec<u8>, outcomes: usize, window: u32) -> Result<(), AllocError>
     ensures { OnOk result (into.new.items ≡ into.old.items ++ text.window_text outcomes window) }
 {
     spell_counted(
@@ -115,7 +107,7 @@ pub(crate) fn spell_window(
 
 // ---- words of a line
 
-pub(crate) fn spell_word(into: &mut Vec<u8>, word: Option<u32>) -> Result<(), AllocError>
+fn spell_word(into: &mut Vec<u8>, word: Option<u32>) -> Result<(), AllocError>
     ensures { OnOk result (into.new.items ≡ into.old.items ++ text.word_text word) }
 {
     let Some(word) = word else {
@@ -142,7 +134,7 @@ fn spell_part(into: &mut Vec<u8>, part: Part) -> Result<(), AllocError>
 }
 
 /// What a search left out.
-pub(crate) fn spell_bound(into: &mut Vec<u8>, reach: Reach, window: u32) -> Result<(), AllocError>
+fn spell_bound(into: &mut Vec<u8>, reach: Reach, window: u32) -> Result<(), AllocError>
     ensures { OnOk result (into.new.items ≡ into.old.items ++ text.bound_text reach window) }
 {
     match reach {
@@ -293,11 +285,7 @@ fn spell_named(
 }
 
 /// The symbol of an address, with a space behind it, if it has one.
-pub(crate) fn spell_symbol(
-    into: &mut Vec<u8>,
-    symbols: &Symbols,
-    address: u32,
-) -> Result<(), AllocError>
+fn spell_symbol(into: &mut Vec<u8>, symbols: &Symbols, address: u32) -> Result<(), AllocError>
     ensures { OnOk result (into.new.items ≡ into.old.items ++ place_before (nearest symbols.now address)) }
 {
     let Some(place) = symbols.nearest(address) else {
@@ -361,7 +349,7 @@ fn spell_answer(
 }
 
 /// What is said of an outcome, and the outcome at a place.
-pub(crate) fn spell_at(
+fn spell_at(
     alloc: Global,
     into: &mut Vec<u8>,
     what: &[u8],
@@ -442,7 +430,7 @@ fn spell_forms(
     Ok(())
 }
 
-pub(crate) fn answer_in(searches: &[Search], patches: &[Patch]) -> Option<Answer>
+fn answer_in(searches: &[Search], patches: &[Patch]) -> Option<Answer>
     ensures { result ≡ answer_in searches.now patches.now }
 {
     let search = search_in(searches, patches)?;
@@ -480,7 +468,7 @@ fn spell_last(alloc: Global, into: &mut Vec<u8>, audit: &Audit) -> Result<(), Al
     Ok(())
 }
 
-pub(crate) fn spell_minimal(into: &mut Vec<u8>, is_minimal: bool) -> Result<(), AllocError>
+fn spell_minimal(into: &mut Vec<u8>, is_minimal: bool) -> Result<(), AllocError>
     ensures { OnOk result (into.new.items ≡ into.old.items ++ text.minimal_text is_minimal) }
 {
     if is_minimal {

@@ -24,4 +24,3 @@ mod Remembering
 mod ByNumbers
 mod ByView
 mod WorkedOut
-pub mod Stopped

@@ -1,4 +1,3 @@
-pub mod Adding
 pub mod Forms
 pub mod Orderings
 pub mod Programs

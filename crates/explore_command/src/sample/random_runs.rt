@@ -34,8 +34,6 @@ impl Findings for Runs {
 
     ghost harts = { λ f. (outcome_of f).results };
 
-    ghost has_failures = { λ r. false };
-
     ghost is_stuck = { λ r. false };
 
     ghost is_incomplete = { λ r. true };
@@ -60,11 +58,7 @@ impl Findings for Runs {
         &outcome.harts
     }
 
-    // Runs are counted by their ends alone, and don't show that no schedule ends, nor that there is no other end.
-
-    fn has_failures(&self) -> bool {
-        false
-    }
+    // Runs don't show that no schedule ends, nor that there is no other end.
 
     fn is_stuck(&self) -> bool {
         false

@@ -1,7 +1,6 @@
 //! An exploration that shows words of memory, as it is told and judged.
 
 ghost use Rattle.std.specs.Prelude.{◌≡◌, ◌≢◌, is_some, length, not};
-ghost use Rattle.explore_command.specs.Exploring.{tells_failures};
 ghost use Rattle.explore_command.specs.Judging.{is_complete};
 ghost use Rattle.explore_command.specs.Keeping.{AreKept, IsScriptOf};
 ghost use Rattle.exploration_text.specs.Words.{end_text, exploration_text};
@@ -36,8 +35,6 @@ impl Findings for Shown<'_> {
 
     ghost harts = { λ f. (outcome_of f).results };
 
-    ghost has_failures = { λ s. tells_failures s.exploration };
-
     ghost is_stuck = { λ s. is_some s.exploration.stuck };
 
     ghost is_incomplete = { λ s. not (is_complete s.exploration.extent) };
@@ -62,10 +59,6 @@ impl Findings for Shown<'_> {
         &outcome.harts
     }
 
-    fn has_failures(&self) -> bool {
-        !self.exploration.failures.is_empty()
-    }
-
     fn is_stuck(&self) -> bool {
         self.exploration.stuck.is_some()
     }
@@ -84,7 +77,7 @@ impl Keepable for Shown<'_> {
 
     ghost AreKept = { λ s left config kib folder. AreKept left config kib folder s.exploration };
 
-    ghost IsFileOf = { λ s. IsScriptOf (length s.exploration.outcomes.items) (length s.exploration.failures.items) s.exploration.stuck };
+    ghost IsFileOf = { λ s. IsScriptOf (length s.exploration.outcomes.items) s.exploration.stuck };
 
     fn keep_in<'a, F: Files>(&self, folder: Folder<'a>, files: &mut F) -> Result<(), Fault<'a>> {
         folder.keep(files, &self.exploration)

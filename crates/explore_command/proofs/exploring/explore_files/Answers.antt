@@ -39,7 +39,7 @@ returns-in_err-keep-clause-unfinished g c =
     (folder_left c.args.wanted _ _ _ _ c.in_err-keep.ensures.told (has_text _ (all_of _ _ _ c.in_ok-print.ensures.printed)) (has_text _ c.in_ok-print.ensures.printed))
 
 pub returns-in_err-keep-clause-spared : goal.returns-in_err-keep-clause-spared
-returns-in_err-keep-clause-spared g c = spared_after _ _ _ _ c.in_ok-asked.ensures.stays (spares_wider _ _ _ _ (script_file _ _ _ c.args.wanted.scripts) c.keep.ensures.spared)
+returns-in_err-keep-clause-spared g c = spared_after _ _ _ _ c.in_ok-asked.ensures.stays (spares_wider _ _ _ _ (script_file _ _ c.args.wanted.scripts) c.keep.ensures.spared)
 
 pub returns-clause-explored : goal.returns-clause-explored
 returns-clause-explored g c =
@@ -64,7 +64,7 @@ returns-clause-unfinished g c =
     c.judge-judgement.ensures.told
 
 pub returns-clause-spared : goal.returns-clause-spared
-returns-clause-spared g c = spared_after _ _ _ _ c.in_ok-asked.ensures.stays (spares_wider _ _ _ _ (script_file _ _ _ c.args.wanted.scripts) c.keep.ensures.spared)
+returns-clause-spared g c = spared_after _ _ _ _ c.in_ok-asked.ensures.stays (spares_wider _ _ _ _ (script_file _ _ c.args.wanted.scripts) c.keep.ensures.spared)
 
 -- files are as before where the fault comes before the scripts
 pub returns-in_err-asked-clause-untouched : goal.returns-in_err-asked-clause-untouched

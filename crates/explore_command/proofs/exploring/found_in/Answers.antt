@@ -10,4 +10,4 @@ explore-found-requires-clause-words g c = All-nil (CanShow c.args.asked.now.imag
 pub returns : goal.returns
 returns g c =
     let is = c.explore-found.ensures in
-    explored.found_in c.args.asked.now.image c.args.asked.now.config [] c.args.wanted.states c.explore-found.result is.real is.complete is.none_stuck is.some is.stuck is.strict is.within is.full is.visited is.failures is.failures_once is.each_failure
+    explored.found_in c.args.asked.now.image c.args.asked.now.config [] c.args.wanted.states c.explore-found.result is.real is.complete is.none_stuck is.some is.stuck is.strict is.within is.full is.visited

@@ -52,7 +52,7 @@ returns-in_err-keep-clause-unfinished g c =
     (folder_left show.explore _ _ _ _ c.in_err-keep.ensures.told (told _ (all_of _ _ _ c.in_ok-print.ensures.printed)) (told _ c.in_ok-print.ensures.printed))
 
 pub returns-in_err-keep-clause-spared : goal.returns-in_err-keep-clause-spared
-returns-in_err-keep-clause-spared g c = spared_after _ _ _ _ c.in_ok-config.ensures.stays (spares_wider _ _ _ _ (script_file _ _ _ c.args.wanted.now.explore.scripts) c.keep.ensures.spared)
+returns-in_err-keep-clause-spared g c = spared_after _ _ _ _ c.in_ok-config.ensures.stays (spares_wider _ _ _ _ (script_file _ _ c.args.wanted.now.explore.scripts) c.keep.ensures.spared)
 
 pub returns-clause-shown : goal.returns-clause-shown
 returns-clause-shown g c =
@@ -81,7 +81,7 @@ returns-clause-unfinished g c =
     c.judge-judgement.ensures.told
 
 pub returns-clause-spared : goal.returns-clause-spared
-returns-clause-spared g c = spared_after _ _ _ _ c.in_ok-config.ensures.stays (spares_wider _ _ _ _ (script_file _ _ _ c.args.wanted.now.explore.scripts) c.keep.ensures.spared)
+returns-clause-spared g c = spared_after _ _ _ _ c.in_ok-config.ensures.stays (spares_wider _ _ _ _ (script_file _ _ c.args.wanted.now.explore.scripts) c.keep.ensures.spared)
 
 -- files are as before where the fault comes before the scripts
 pub returns-in_err-config-clause-untouched : goal.returns-in_err-config-clause-untouched

@@ -1,3 +1,0 @@
-pub mod Allowing
-pub mod Known
-pub mod Patterns
