@@ -1,11 +1,11 @@
-//! `rvtl check` as one would write it in Rust without proofs, to measure against: `plain_check [--ztso] TRACE`
-//! prints the same line and ends with the same status on a trace that can be read.
-//!
-//!     rustc --edition 2024 -O tools/plain_check/plain_check.rs -o plain_check
-//!
-//! It reads the text once, runs each hart's list once, and works out once for each operation how late the
-//! operations stand that must come before it: what the registers hold, which fence stood between, which access
-//! to a byte was last. No pair of operations is looked at but the one that it prints.
+// `rvtl check` as one would write it in Rust without proofs, to measure against: `plain_check [--ztso] TRACE`
+// prints the same line and ends with the same status on a trace that can be read.
+//
+//     rustc --edition 2024 -O tools/plain_check/plain_check.rs -o plain_check
+//
+// It reads the text once, runs each hart's list once, and works out once for each operation how late the
+// operations stand that must come before it: what the registers hold, which fence stood between, which access
+// to a byte was last. No pair of operations is looked at but the one that it prints.
 
 use std::collections::HashMap;
 use std::process::ExitCode;

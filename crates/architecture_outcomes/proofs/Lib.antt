@@ -1,4 +1,4 @@
-mod Aligned
+mod Each
 mod Ends
 mod NeverEnds
 mod Once

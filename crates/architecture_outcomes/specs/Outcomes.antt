@@ -1,5 +1,5 @@
 -- What shows that a memory model allows an outcome, and when none of the machine's is missing.
-use Rattle.std.specs.Prelude.{◌≡◌, ◌+◌, ◌≤◌, ℕ, true, Bool, List, None, Option, Some, Contains, if◌then◌else◌, map}
+use Rattle.std.specs.Prelude.{◌≡◌, ◌⊎◌, ◌+◌, ◌≤◌, ℕ, true, Bool, List, None, Option, Some, Contains, if◌then◌else◌, map}
 use Rattle.std.specs.List.{count_by}
 use Rattle.std.specs.Ordering.{is_eq}
 use Rattle.architecture_outcomes.specs.declared.outcome.Outcome.{Outcome}
@@ -80,6 +80,10 @@ tells outcome o = is_eq (outcome_cmp (end_of o) outcome)
 -- no outcome is told twice by what was found of the machine and these
 abbrev pub TellOnce : (found outcomes : List Outcome) → Type 0
 TellOnce found outcomes = (outcome : End) → count_by (tells outcome) found + count_by (tells outcome) outcomes ≤ 1
+
+-- each of these ends is told by what was found of the machine or by these
+abbrev pub TellEach : List End → (found outcomes : List Outcome) → Type 0
+TellEach ends found outcomes = (end : End) → Contains ends end → Contains (ends_of found) end ⊎ Contains (ends_of outcomes) end
 
 -- the outcome, where it is told as the machine's
 abbrev pub end_by : End → Way → Option End

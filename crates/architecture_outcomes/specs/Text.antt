@@ -49,6 +49,7 @@ rows_text longest = codes ", rows over " ++ (decimal longest ++ codes " instruct
 abbrev pub reach_text : Reach → ℕ → List ℕ
 reach_text reach.Whole window = codes ""
 reach_text reach.Unjudged window = codes ", some outcomes left out, as runs of over 4096 operations aren't judged"
+reach_text reach.Unclosed window = codes ", a last pass over the states found more"
 reach_text reach.WindowMet window = codes ", windows over " ++ (decimal window ++ codes " left out")
 reach_text reach.GuessMet window = codes ", some values of loads or ways of fetching on left out"
 reach_text reach.CallMet window = codes ", what a call by a loaded number allows may be left out"
@@ -66,14 +67,14 @@ abbrev pub count_text : (outcomes states : ℕ) → List ℕ
 count_text outcomes states = decimal outcomes ++ (codes " outcomes, " ++ (decimal states ++ codes " states"))
 
 -- neither search met a bound
-abbrev pub whole_line : (outcomes states window : ℕ) → List ℕ
-whole_line outcomes states window = codes "searched: " ++ (count_text outcomes states ++ (codes ", no window over " ++ (decimal window ++ codes " (not proved complete)\n")))
+abbrev pub whole_line : (outcomes states : ℕ) → List ℕ
+whole_line outcomes states = codes "complete: " ++ (count_text outcomes states ++ codes "\n")
 
 abbrev pub partial_line : Architecture → List ℕ
 partial_line a = codes "incomplete: " ++ (count_text (length a.outcomes.items) a.states ++ (reach_text a.reach a.window ++ (machine_text a.machine a.machine_states ++ codes "\n")))
 
 abbrev pub line_by : Reach → Extent → Architecture → List ℕ
-line_by reach.Whole extent.Complete a = whole_line (length a.outcomes.items) a.states a.window
+line_by reach.Whole extent.Complete a = whole_line (length a.outcomes.items) a.states
 line_by _ _ a = partial_line a
 
 abbrev pub last_line : Architecture → List ℕ

@@ -3,17 +3,20 @@ ghost use Rattle.std.specs.Prelude.{◌≡◌, ◌≢◌, ◌≤◌, All, IfOk, 
 ghost use Rattle.std.specs.List.{list_any};
 ghost use Rattle.std.specs.List.Sorted.{IsStrictlySortedBy};
 ghost use Rattle.std.specs.Ordering.{on};
-ghost use Rattle.architecture_outcomes.specs.Outcomes.{IsDecided, IsWitnessed, TellOnce, end_of, ends_of, tells};
-ghost use Rattle.flat_machine.specs.Onward.{are_aligned};
+ghost use Rattle.architecture_outcomes.specs.Outcomes.{IsDecided, IsWitnessed, TellEach, TellOnce, end_of, ends_of, tells};
+ghost use Rattle.performed_words.specs.Words.{are_aligned};
+ghost use Rattle.window_model.specs.Complete.{TellsEachAllowed};
 ghost use Rattle.window_search.specs.Openings.{NeverOpens};
+ghost use Rattle.window_search.specs.Told.{endings_of};
 ghost use Rattle.witnesses.specs.Witnesses.{IsWitness};
 ghost use Rattle.explorer.specs.Outcomes.{HasEachEnd};
 ghost use Rattle.explorer.specs.Ranks.{outcome_cmp};
+ghost use Rattle.performed_words.specs.Words.{CanShowEach};
 
 use crate::outcome::Outcome;
 use elf_loader::Image;
-use explorer::words_of;
 use machine_types::Config;
+use performed_words::words_of;
 use state_search::Watch;
 use std::alloc::{AllocError, Global};
 use window_search::{Allowed, Reach, search_growing};
@@ -29,6 +32,8 @@ pub(crate) fn search_model<W: Watch>(
     limit: u32,
     watch: &W,
 ) -> Allowed
+    requires words { CanShowEach image.now addresses.now }
+    ensures allowed { result.reach ≡ Reach.Whole → TellsEachAllowed image.now config addresses.now (endings_of addresses.now result.witnesses.items) }
     ensures witnessed { All (IsWitness image.now config) result.witnesses.items }
     ensures opens { result.reach ≡ Reach.Whole → result.states ≡ 0 → NeverOpens image.now config }
     ensures bounded { result.reach ≢ Reach.LimitMet → result.reach ≢ Reach.OutOfMemory → result.states ≤ limit }
@@ -69,6 +74,7 @@ pub(crate) fn beyond(
     requires once { IsStrictlySortedBy (on end_of outcome_cmp) found.now }
     ensures shown { IfOk result (λ outcomes. All (IsWitnessed image.now config addresses.now) outcomes.items) }
     ensures once { IfOk result (λ outcomes. TellOnce found.now outcomes.items) }
+    ensures all { IfOk result (λ outcomes. TellEach (endings_of addresses.now witnesses.items) found.now outcomes.items) }
     ensures alone { IfOk result (λ outcomes. IsTrue is_complete → All (λ o. IsDecided o.way) outcomes.items) }
 {
     let mut outcomes = Vec::new(alloc);

@@ -2,12 +2,13 @@
 ghost use Rattle.std.specs.Prelude.{◌≡◌, ◌≢◌, ◌<◌, ◌≤◌, All, IfOk, List, min};
 ghost use Rattle.std.specs.List.Sorted.{IsStrictlySortedBy};
 ghost use Rattle.std.specs.Ordering.{on};
-ghost use Rattle.architecture_outcomes.specs.Outcomes.{IsDecided, IsWitnessed, TellsEachEnd, end_of};
+ghost use Rattle.architecture_outcomes.specs.Outcomes.{IsDecided, IsWitnessed, TellsEachEnd, end_of, ends_of};
 ghost use Rattle.architecture_outcomes.specs.Visited.{AreMachineStates, TellsEnd};
 ghost use Rattle.flat_model.specs.Flat.{Flat};
+ghost use Rattle.window_model.specs.Complete.{TellsEachAllowed};
 ghost use Rattle.window_search.specs.Openings.{NeverOpens};
 ghost use Rattle.explorer.specs.Ranks.{outcome_cmp};
-ghost use Rattle.explorer.specs.Words.{CanShowEach};
+ghost use Rattle.performed_words.specs.Words.{CanShowEach};
 
 use crate::architecture::Architecture;
 use crate::beyond::{beyond, search_model};
@@ -49,9 +50,8 @@ impl<W: Watch> Watch for Behind<'_, W> {
 /// Finds the outcomes that the machine comes to, and searches for those that its memory model allows, with at most
 /// `window` operations of a hart waiting at a time (64 where that is more), each until it has found as many states as
 /// the limit, or memory ends. Meanwhile `watch` is told how far they are. An outcome shows the words of memory
-/// at these addresses, in their order, behind all operations. What was found then stands. Nothing is known of outcomes
-/// that the model allows and that aren't told. The error is that there was no memory to begin with, or none for the
-/// list of what was found.
+/// at these addresses, in their order, behind all operations. What was found then stands. The error is that there was no
+/// memory to begin with, or none for the list of what was found.
 pub fn explore_architecture<W: Watch>(
     alloc: Global,
     image: &Image,
@@ -76,6 +76,9 @@ pub fn explore_architecture<W: Watch>(
 
     // And each other is told as the model's alone.
     ensures alone { IfOk result (λ a. a.machine ≡ Extent.Complete → All (λ o. IsDecided o.way) a.outcomes.items) }
+
+    // Where the search under the model left nothing out, each outcome that the model allows is told.
+    ensures allowed { IfOk result (λ a. a.reach ≡ Reach.Whole → TellsEachAllowed image.now config addresses.now (ends_of a.outcomes.items)) }
 
     // The search under the model finds no state only where a hart never comes from reset to an access or its end, or says
     // that it left out more.

@@ -7,7 +7,7 @@ ghost use Rattle.architecture_outcomes.specs.Visited.{AreMachineStates};
 ghost use Rattle.flat_model.specs.Flat.{Flat};
 ghost use Rattle.explorer.specs.Outcomes.{HasEachEnd};
 ghost use Rattle.explorer.specs.Ranks.{outcome_cmp};
-ghost use Rattle.explorer.specs.Words.{CanShowEach};
+ghost use Rattle.performed_words.specs.Words.{CanShowEach};
 
 use crate::outcome::{Outcome, Way};
 use elf_loader::Image;

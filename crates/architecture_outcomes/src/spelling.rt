@@ -119,6 +119,9 @@ fn spell_reach(into: &mut Vec<u8>, reach: Reach, window: u32) -> Result<(), Allo
                 b", some outcomes left out, as runs of over 4096 operations aren't judged",
             )?;
         }
+        Reach::Unclosed => {
+            into.extend_from_slice(b", a last pass over the states found more")?;
+        }
         Reach::WindowMet => {
             into.extend_from_slice(b", windows over ")?;
             spell_number(into, u64::from(window))?;
@@ -165,13 +168,11 @@ fn spell_counts(into: &mut Vec<u8>, outcomes: usize, states: usize) -> Result<()
 }
 
 fn spell_whole(into: &mut Vec<u8>, found: &Architecture) -> Result<(), AllocError>
-    ensures { OnOk result (into.new.items ≡ into.old.items ++ text.whole_line (length found.now.outcomes.items) found.now.states found.now.window) }
+    ensures { OnOk result (into.new.items ≡ into.old.items ++ text.whole_line (length found.now.outcomes.items) found.now.states) }
 {
-    into.extend_from_slice(b"searched: ")?;
+    into.extend_from_slice(b"complete: ")?;
     spell_counts(into, found.outcomes.len(), found.states)?;
-    into.extend_from_slice(b", no window over ")?;
-    spell_number(into, u64::from(found.window))?;
-    into.extend_from_slice(b" (not proved complete)\n")?;
+    into.extend_from_slice(b"\n")?;
     Ok(())
 }
 

@@ -49,7 +49,7 @@ module _ (held left : Contents) (old new : Option (List ℕ)) where
   search_begins : (architecture sampled : Bool) (explore : Sought) → ExploreHas architecture sampled held explore (Appends old new) → ExploreHas architecture sampled held explore (Begins old new)
   search_begins true sampled explore so = record { architecture = so.architecture; of_file = so.of_file; of_text = all_of old new _ so.of_text }
   search_begins false true explore so = record { image = so.image; found = so.found; image_file = so.image_file; inside = so.inside; runs_made = so.runs_made; of_text = all_of old new _ so.of_text }
-  search_begins false false explore so = record { image = so.image; exploration = so.exploration; image_file = so.image_file; inside = so.inside; found = so.found; of_text = all_of old new _ so.of_text }
+  search_begins false false explore so = record { image = so.image; symbols = so.symbols; exploration = so.exploration; image_file = so.image_file; inside = so.inside; found = so.found; of_text = all_of old new _ so.of_text }
 
   words_begin : (architecture : Bool) (show : Shown) → ShowHas architecture held show (Appends old new) → ShowHas architecture held show (Begins old new)
   words_begin true show so = record { architecture = so.architecture; of_file = so.of_file; of_text = all_of old new _ so.of_text }

@@ -110,20 +110,23 @@ Example: rvtl run --raw --journal exit.journal examples/exit.bin";
 pub(crate) const EXPLORE_HELP: &str =
     "Prints an outcome a line, numbered: of each hart how it ended (stop CODE, by replay --help, or exit CODE)
 and what it put out. The order of the lines is fixed. The last line is one of
-  complete: N outcomes, M states      no schedule of the machine brings the program to another end
+  complete: N outcomes, M states      no schedule of the machine brings the program to another end or failure
   incomplete: LIMIT states met        the outcomes are some of those that there are
   incomplete: out of memory           so are they here, and the status is 4
-Before it, stuck: N states from which no schedule ends, where there are any.
+Before it, where there are any,
+  failure N  hart H: stop CODE at PC  a hart that stops, whatever the others do; behind it how they stood then,
+                                      each PC with its symbol where an ELF file has some
+  stuck: N states from which no schedule ends
 With --show, the final word at an address or symbol stands behind the harts, and an end is one at which
 no store waits:
   1  hart 0: exit 0   hart 1: exit 0   counter = 0x00000002
 With --scripts, events that an outcome doesn't need are left out of its script. At most 1,000,000 events
-are played to find them, and 40,000,000 for all outcomes (of random runs, 1,000,000 for each).
+are played to find them, and 40,000,000 for all outcomes and failures (of random runs, 1,000,000 for each).
 The machine carries loads out as they retire, so that what a missing fence between two loads allows is
 not among the outcomes. With --architecture it is: behind each outcome stands whether this machine shows
 it, or the memory model alone allows it; its words are those behind all operations. It doesn't look for states
 from which no schedule ends. The last line is
-  searched: N outcomes, M states, no window over W (not proved complete)
+  complete: N outcomes, M states      no order that the memory model allows brings the program to another end
 or incomplete: and the limit that was met. With --sample, random runs are made and counted instead, each of
 at most 1,000,000 tried events, and the last line is sampled: RUNS runs, not complete; --architecture or
 --show don't go with it.
@@ -143,7 +146,7 @@ and below a FENCE that is needed
 The line behind them tells orderings that are enough together: from all, one after another was left out by
 addresses, and then each FENCE made weaker, where the outcomes stayed the same; none of those told can be
 left out. Another order may leave others. The last line is
-  searched: N orderings, P programs, M outcomes of the program as it is, no window over W (not proved complete)
+  searched: N orderings, P programs, M outcomes of the program as it is
 or undecided: the program as it is, and the bound that its search met. A word of data that looks like such an
 instruction counts as one. What is told holds of so many harts, and of this program's own data.
 
@@ -153,13 +156,13 @@ pub(crate) const SHOW_HELP: &str =
     "show the word of memory at this address (decimal, or hexadecimal behind 0x) or symbol in each outcome, which then ends only once no store waits; may be given again";
 
 pub(crate) const SCRIPTS_HELP: &str =
-    "the folder, which has to exist, to write outcome-1.script .. and stuck.script into, each for replay; and outcome-1.trace .., each for check, of outcomes that this machine wasn't found to show. Other files there stay, also those of an earlier search";
+    "the folder, which has to exist, to write outcome-1.script .., failure-1.script .. and stuck.script into, each for replay; and outcome-1.trace .., each for check, of outcomes that this machine wasn't found to show. Other files there stay, also those of an earlier search";
 
 pub(crate) const ALLOW_HELP: &str =
     "the file with the allowed outcomes, a line each as printed, with or without its number, and with a * for any number in it; where another is found its number is told and the status is 3";
 
 pub(crate) const FAIL_ON_HELP: &str =
-    "what the search may not come to, with a comma between each two: failure (a hart stopped in an outcome), stuck (from some state no schedule ends), incomplete (not all was searched); where it comes to one it is told and the status is 3";
+    "what the search may not come to, with a comma between each two: failure (a hart stopped, whatever the others do then; with --architecture or --sample only in an outcome), stuck (from some state no schedule ends), incomplete (not all was searched); where it comes to one it is told and the status is 3";
 
 pub(crate) const CHECK_HELP: &str =
     "Prints legal, or with status 3 a fault: its code and two operations, as HART:PLACE, that show it.

@@ -14,6 +14,7 @@ use Rattle.machine_model.specs.Views.{State}
 use Rattle.machine_parts.specs.Applying.{Answers}
 use Rattle.machine_parts.specs.declared.errors.ApplyError.{ApplyError}
 use Rattle.machine_parts.specs.declared.errors.ApplyError.TheVariants.{BadEvent, Limit, NoMemory}
+use Rattle.rv32_exec.specs.declared.actions.Action.{Action}
 use Rattle.text_fields.specs.Writing.{Begins}
 use Rattle.text_fields.specs.Pages.{Paged}
 use Rattle.text_fields.proofs.Pages.{paged_none}
@@ -25,7 +26,7 @@ use Rattle.event_stream.specs.declared.report.Lengths.{Lengths}
 use Rattle.event_stream.specs.declared.strictness.Strictness.{Strictness}
 use Rattle.event_stream.specs.declared.strictness.Strictness.TheVariants.{Lenient, Strict}
 use Rattle.event_stream.specs.Lines.{report_lines}
-use Rattle.event_stream.specs.Reports.{Report, StreamEnding, ending, ending_by, report, reports, reports_by}
+use Rattle.event_stream.specs.Reports.{Report, StreamEnding, action_of, ending, ending_by, report, reports, reports_by}
 use Rattle.event_stream.specs.Streams.{lines}
 use Rattle.event_stream.specs.Telling.{IsHandedOn, IsTold, ends_at, lengths_of, report_behind}
 use Rattle.event_stream.specs.Writing.{IsCut}
@@ -82,11 +83,13 @@ lines_more : (names : List Named) (m : Strictness) (i : ℕ) (s new : State) (e 
 lines_more names m i s new e o more a h = rw (is_reported (verdict s e) m s new e o i (reports m (i + 1) (happens s e) more) a h) refl
 
 -- what is told of an event, from the lengths before it
-pub behind : (b : Lengths) (h : ℕ) (x : Report) (here new : State) (index : ℕ) (e : Event) (o : Outcome) → b ≡ lengths_of here h → h ≡ hart_of e → new ≡ happens here e → x ≡ report_behind b new index e o → x ≡ report index here e o
-behind b h x here new index e o eb eh en ex =
+pub behind : (b : Lengths) (h : ℕ) (action : Option Action) (x : Report) (here new : State) (index : ℕ) (e : Event) (o : Outcome)
+    → b ≡ lengths_of here h → h ≡ hart_of e → action ≡ action_of here e → new ≡ happens here e → x ≡ report_behind b action new index e o → x ≡ report index here e o
+behind b h action x here new index e o eb eh ea en ex =
     ex
-    ∙ ap (λ (c : Lengths). report_behind c new index e o) (eb ∙ ap (lengths_of here) eh)
-    ∙ ap (λ (s : State). report_behind (lengths_of here (hart_of e)) s index e o) en
+    ∙ ap (λ (c : Lengths). report_behind c action new index e o) (eb ∙ ap (lengths_of here) eh)
+    ∙ ap (λ (a : Option Action). report_behind (lengths_of here (hart_of e)) a new index e o) ea
+    ∙ ap (λ (s : State). report_behind (lengths_of here (hart_of e)) (action_of here e) s index e o) en
 
 pub one_told : (names : List Named) (m : Strictness) (s : State) (events : List Event) (index : ℕ) (here new : State) (event : Event) (rest : List Event) (o : Outcome) (old now then : Option (List ℕ)) (page after next : List ℕ)
     → Told names m s events index here (event ∷ rest) old now page after → Answers (verdict here event) here (Ok o) new → new ≡ happens here event

@@ -1,6 +1,7 @@
 pub mod Outcomes
 pub mod Reports
 pub mod Naming
+pub mod Accesses
 pub mod Comments
 pub mod Disassembly
 pub mod Lines

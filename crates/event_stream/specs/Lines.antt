@@ -8,9 +8,11 @@ use Rattle.machine_types.specs.declared.outcome.Outcome.{Outcome}
 use Rattle.machine_model.specs.Events.{hart_of}
 use Rattle.rv32_decode.specs.Rows.{decoded}
 use Rattle.rv32_decode.specs.declared.instruction.Instr.{Instr}
+use Rattle.rv32_exec.specs.declared.actions.Action.{Action}
 use Rattle.text_fields.specs.Fields.{number}
 use Rattle.trace_text.specs.Scripts as script
 use Rattle.trace_text.specs.Traces as trace
+use Rattle.event_stream.specs.Accesses.{accessed}
 use Rattle.event_stream.specs.Naming.{instruction}
 use Rattle.event_stream.specs.Outcomes.{outcome}
 use Rattle.event_stream.specs.Reports.{Report}
@@ -36,9 +38,14 @@ abbrev pub disassembled : List Named → ℕ → Option Instr → List ℕ
 disassembled names pc None = []
 disassembled names pc (Some i) = codes " ; " ++ instruction names pc i
 
--- a trace's R line, and the instruction behind it
-abbrev pub retired_line : List Named → ℕ → Retired → List ℕ
-retired_line names h r = unended (trace.retired_lead h ++ trace.retired_text r) ++ (disassembled names r.pc (decoded r.word) ++ 10 ∷ [])
+-- the same of a retired one, with what it did to memory
+abbrev pub behind : List Named → Option Action → Retired → Option Instr → List ℕ
+behind names action r None = []
+behind names action r (Some i) = codes " ; " ++ (instruction names r.pc i ++ accessed names action r)
+
+-- a trace's R line, and what stands behind it of an instruction that was to do this
+abbrev pub retired_line : List Named → ℕ → Option Action → Retired → List ℕ
+retired_line names h action r = unended (trace.retired_lead h ++ trace.retired_text r) ++ (behind names action r (decoded r.word) ++ 10 ∷ [])
 
 -- a number that a hart put out
 abbrev pub output_line : ℕ → ℕ → List ℕ
@@ -47,5 +54,5 @@ output_line h n = codes "O " ++ (number 32 h ++ number 10 n)
 -- an event's line, and the lines of what it made longer
 abbrev pub report_lines : List Named → Report → List ℕ
 report_lines names r =
-    event_line r.index r.event r.outcome ++ (flat_map (retired_line names (hart_of r.event)) r.entries
+    event_line r.index r.event r.outcome ++ (flat_map (retired_line names (hart_of r.event) r.action) r.entries
     ++ (flat_map trace.operation r.performed ++ (flat_map trace.logged r.log ++ flat_map (output_line (hart_of r.event)) r.output)))

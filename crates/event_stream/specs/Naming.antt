@@ -18,8 +18,20 @@ short_hex n = without_zeros (drop 2 (word n))
 abbrev pub distance : ℕ → List ℕ
 distance n = if n == 0 then [] else codes "+0x" ++ short_hex n
 
+-- a name with the distance behind it
+abbrev pub symbol : Near → List ℕ
+symbol near = near.name ++ distance near.offset
+
+-- an address by itself: by its name, or else its digits
+abbrev pub address_by : ℕ → Option Near → List ℕ
+address_by a None = word a
+address_by a (Some near) = symbol near
+
+abbrev pub address : List Named → ℕ → List ℕ
+address names a = address_by a (nearest names a)
+
 abbrev pub place : Near → List ℕ
-place near = codes "<" ++ (near.name ++ (distance near.offset ++ codes ">"))
+place near = codes "<" ++ (symbol near ++ codes ">")
 
 -- what stands before an instruction that lies there
 abbrev pub place_before : Option Near → List ℕ

@@ -1,24 +1,28 @@
 -- What each event of a script came to, and how a script's events end.
-use Rattle.std.specs.Prelude.{ℕ, ◌+◌, List, [], ◌∷◌, length, drop}
+use Rattle.std.specs.Prelude.{ℕ, ◌+◌, List, [], ◌∷◌, Option, None, length, drop, nat_lt, if◌then◌else◌}
+use Rattle.hart.specs.Next.{next_action}
 use Rattle.hart.specs.declared.retired.Retired.{Retired}
 use Rattle.machine_types.specs.declared.event.Event.{Event}
+use Rattle.machine_types.specs.declared.event.Event.TheVariants.{Step, Drain, Evict, Deliver, Local}
 use Rattle.machine_types.specs.declared.outcome.Outcome.{Outcome}
 use Rattle.machine_model.specs.Events.{Verdict, happens, hart_of, verdict}
 use Rattle.machine_model.specs.Events.Verdict.{IsBad, Keeps, IsLimited, Moves}
 use Rattle.machine_model.specs.Views.{State, node_at}
 use Rattle.machine_parts.specs.declared.errors.ApplyError.{ApplyError}
 use Rattle.machine_parts.specs.declared.errors.ApplyError.TheVariants.{BadEvent, Limit}
+use Rattle.rv32_exec.specs.declared.actions.Action.{Action}
 use Rattle.trace_recorder.specs.declared.operation.OpId.{OpId}
 use Rattle.trace_recorder.specs.declared.logged.Logged.{Logged}
 use Rattle.trace_recorder.specs.History.{entries_of}
 use Rattle.event_stream.specs.declared.strictness.Strictness.{Strictness}
 use Rattle.event_stream.specs.declared.strictness.Strictness.TheVariants.{Lenient, Strict}
 
--- an event, counted from 0 in its script, and its outcome; and by what it made longer its hart's list of retired instructions, the performed order, the log, and what its hart put out
+-- an event, counted from 0 in its script, and its outcome; what a step's instruction was to do; and by what it made longer its hart's list of retired instructions, the performed order, the log, and what its hart put out
 pub record Report : Type 0 where
   pub index : ℕ
   pub event : Event
   pub outcome : Outcome
+  pub action : Option Action
   pub entries : List Retired
   pub performed : List OpId
   pub log : List Logged
@@ -31,12 +35,25 @@ grown old new = drop (length old) new
 abbrev pub outputs_of : State → ℕ → List ℕ
 outputs_of s h = (node_at s h).output
 
+-- what the next instruction of a hart is to do, with the registers that it has, where there is such a hart
+abbrev pub action_at : State → ℕ → Option Action
+action_at s h = if nat_lt h (length s.views.nodes) then next_action s.trace.image (node_at s h).hart else None
+
+-- of a step that of its hart; what retires by Local accesses nothing
+abbrev pub action_of : State → Event → Option Action
+action_of s (Step h) = action_at s h
+action_of s (Drain h word) = None
+action_of s (Evict h line) = None
+action_of s (Deliver channel h) = None
+action_of s (Local h count) = None
+
 -- the report of an event of this outcome that leads from one state to another
 abbrev pub report_between : State → State → ℕ → Event → Outcome → Report
 report_between old new index e o = record {
   index = index;
   event = e;
   outcome = o;
+  action = action_of old e;
   entries = grown (entries_of old.trace (hart_of e)) (entries_of new.trace (hart_of e));
   performed = grown old.trace.performed new.trace.performed;
   log = grown old.trace.log new.trace.log;

@@ -8,6 +8,7 @@ use Rattle.machine_types.specs.declared.outcome.Outcome.{Outcome}
 use Rattle.machine_model.specs.Events.{hart_of}
 use Rattle.machine_model.specs.Events.Verdict.{Keeps}
 use Rattle.machine_model.specs.Views.{State}
+use Rattle.rv32_exec.specs.declared.actions.Action.{Action}
 use Rattle.text_fields.specs.Pages.{Paged}
 use Rattle.text_fields.specs.Writing.{Begins}
 use Rattle.trace_recorder.specs.History.{entries_of}
@@ -22,18 +23,19 @@ use Rattle.event_stream.specs.Streams.{lines}
 use Rattle.event_stream.specs.Writing.{IsCut}
 
 abbrev pub report_of : Borrowed → Report
-report_of r = record { index = r.index; event = r.event; outcome = r.outcome; entries = r.entries.now; performed = r.performed.now; log = r.log.now; output = r.output.now }
+report_of r = record { index = r.index; event = r.event; outcome = r.outcome; action = r.action; entries = r.entries.now; performed = r.performed.now; log = r.log.now; output = r.output.now }
 
 -- how long the lists of a hart and of all are, and how many events changed the machine
 abbrev pub lengths_of : State → ℕ → Lengths
 lengths_of s h = record { entries = length (entries_of s.trace h); performed = length s.trace.performed; log = length s.trace.log; output = length (outputs_of s h); changes = s.views.changes }
 
--- what stands behind these lengths
-abbrev pub report_behind : Lengths → State → ℕ → Event → Outcome → Report
-report_behind before new index e o = record {
+-- what stands behind these lengths, of an event whose instruction was to do this
+abbrev pub report_behind : Lengths → Option Action → State → ℕ → Event → Outcome → Report
+report_behind before action new index e o = record {
   index = index;
   event = e;
   outcome = o;
+  action = action;
   entries = drop before.entries (entries_of new.trace (hart_of e));
   performed = drop before.performed new.trace.performed;
   log = drop before.log new.trace.log;

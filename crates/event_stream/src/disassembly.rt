@@ -42,14 +42,14 @@ fn place_of(pc: u32) -> usize
     pc as usize / 4 % PLACES
 }
 
-/// Appends an instruction at this address, and the end of the line.
+/// Appends an instruction at this address, behind a semicolon.
 fn spell_comment(page: &mut Page, names: &Symbols, pc: u32, instr: &Instr)
-    requires { length page.old + 191 ≤ size }
-    ensures { page.new ≡ page.old ++ comment names.now pc instr.now }
+    requires { length page.old + 190 ≤ size }
+    ensures value { page.new ≡ page.old ++ comment names.now pc instr.now }
+    ensures len { length page.new ≤ length page.old + 190 }
 {
     page.text(b"; ");
     spell_instruction(page, names, pc, instr);
-    page.text(b"\n");
 }
 
 /// These bytes, as they are kept.
@@ -102,12 +102,13 @@ impl Disassembly {
         }
     }
 
-    /// Appends an instruction at this address and the end of the line, and keeps that.
+    /// Appends an instruction at this address behind a semicolon, and keeps that.
     pub fn spell(&mut self, page: &mut Page, names: &Symbols, pc: u32, word: u32, instr: &Instr)
-        requires room { length page.old + 191 ≤ size }
+        requires room { length page.old + 190 ≤ size }
         requires word { decoded word ≡ Some instr.now }
         requires kept { AreKept names.now self.old }
         ensures value { page.new ≡ page.old ++ comment names.now pc instr.now }
+        ensures len { length page.new ≤ length page.old + 190 }
         ensures kept { AreKept names.now self.new }
     {
         let start = page.as_slice().len();

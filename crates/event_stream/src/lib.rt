@@ -2,6 +2,7 @@
 //! that made the trace longer by them.
 #![tactic(auto)]
 
+mod accesses;
 mod closing;
 mod disassembly;
 mod errors;
@@ -19,7 +20,7 @@ mod writing;
 
 pub use errors::StreamError;
 pub use laws::stream_is_the_trace;
-pub use report::{Lengths, Report, hart_of};
+pub use report::{Lengths, Report, action_of, hart_of};
 pub use spellings::outcome_name;
 pub use state::write_state;
 pub use strictness::Strictness;

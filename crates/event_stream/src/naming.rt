@@ -43,6 +43,29 @@ fn spell_distance(page: &mut Page, n: u32)
     }
 }
 
+/// A name with the distance behind it.
+fn spell_symbol(page: &mut Page, place: Place<'_>)
+    requires room { length page.old + 67 ≤ size }
+    requires short { length place.name.now ≤ 56 }
+    ensures value { page.new ≡ page.old ++ naming.symbol (near_of place.entry) }
+    ensures len { length page.new ≤ length page.old + 67 }
+{
+    page.text(place.name);
+    spell_distance(page, place.offset);
+}
+
+/// An address by itself: by its name, or else its digits.
+pub(crate) fn spell_address(page: &mut Page, names: &Symbols, address: u32)
+    requires { length page.old + 67 ≤ size }
+    ensures value { page.new ≡ page.old ++ naming.address names.now address }
+    ensures len { length page.new ≤ length page.old + 67 }
+{
+    match names.nearest(address) {
+        Some(place) => spell_symbol(page, place),
+        None => page.word(address),
+    }
+}
+
 fn spell_place(page: &mut Page, place: Place<'_>)
     requires room { length page.old + 69 ≤ size }
     requires short { length place.name.now ≤ 56 }
@@ -50,8 +73,7 @@ fn spell_place(page: &mut Page, place: Place<'_>)
     ensures len { length page.new ≤ length page.old + 69 }
 {
     page.text(b"<");
-    page.text(place.name);
-    spell_distance(page, place.offset);
+    spell_symbol(page, place);
     page.text(b">");
 }
 

@@ -8,6 +8,7 @@ ghost use Rattle.event_stream.specs.Telling.{lengths_of, report_of, report_behin
 use coherent_machine::{Machine, Views};
 use hart::Retired;
 use machine_types::{Event, Outcome};
+use rv32_exec::Action;
 use trace_recorder::{Logged, OpId, Trace};
 
 /// How long the lists are before an event of a hart, and how many events have changed the machine.
@@ -20,12 +21,14 @@ pub struct Lengths {
     pub changes: u32,
 }
 
-/// An event by its index in the script, from 0, its outcome, and what it added to the lists.
+/// An event by its index in the script, from 0, its outcome, what the instruction of a step was to do, and what
+/// the event added to the lists.
 #[derive(Clone, Copy)]
 pub struct Report<'a> {
     pub index: usize,
     pub event: Event,
     pub outcome: Outcome,
+    pub action: Option<Action>,
     pub entries: &'a [Retired],
     pub performed: &'a [OpId],
     pub log: &'a [Logged],
@@ -67,6 +70,31 @@ fn outputs_of<'a>(views: Views<'a>, hart: usize) -> &'a [u32]
     }
 }
 
+/// What the next instruction of a hart is to do, where there is such a hart.
+fn action_at(machine: &Machine, hart: usize) -> Option<Action>
+    ensures { result ≡ reports.action_at machine.now hart }
+{
+    if hart < machine.views().harts() {
+        machine
+            .views()
+            .hart(hart)
+            .next_action(machine.trace().image())
+    } else {
+        None
+    }
+}
+
+/// What the instruction of a step is to do; of another event nothing.
+pub fn action_of(machine: &Machine, event: Event) -> Option<Action>
+    ensures { result ≡ reports.action_of machine.now event }
+{
+    match event {
+        Event::Step { hart } => action_at(machine, hart as usize),
+        Event::Drain { .. } | Event::Evict { .. } | Event::Deliver { .. } | Event::Local { .. } =>
+            None,
+    }
+}
+
 /// The items from this place on.
 fn tail<T>(items: &[T], from: usize) -> &[T]
     ensures { result.now ≡ drop from items.now }
@@ -95,15 +123,16 @@ impl Lengths {
 }
 
 impl<'a> Report<'a> {
-    /// What stands in a machine's lists behind these lengths.
+    /// What stands in a machine's lists behind these lengths, of an event whose instruction was to do this.
     pub fn behind(
         before: &Lengths,
+        action: Option<Action>,
         machine: &'a Machine,
         index: usize,
         event: Event,
         outcome: Outcome,
     ) -> Report<'a>
-        ensures { report_of result ≡ report_behind before.now machine.now index event outcome }
+        ensures { report_of result ≡ report_behind before.now action machine.now index event outcome }
     {
         let trace = machine.trace();
         let hart = hart_of(event) as usize;
@@ -111,6 +140,7 @@ impl<'a> Report<'a> {
             index,
             event,
             outcome,
+            action,
             entries: tail(entries_of(trace, hart), before.entries),
             performed: tail(trace.performed(), before.performed),
             log: tail(trace.log(), before.log),

@@ -1,11 +1,15 @@
 //! Writing the lines of a report.
-ghost use Rattle.std.specs.Prelude.{◌≡◌, ◌+◌, ◌<◌, ◌^◌, ◌++◌};
+ghost use Rattle.std.specs.Prelude.{◌≡◌, ◌+◌, ◌<◌, ◌≤◌, ◌^◌, ◌∷◌, ◌++◌, [], Some, is_some, length};
 ghost use Rattle.std.specs.List.{flat_map};
-ghost use Rattle.text_fields.specs.Pages.{HasLineRoom, Spells};
+ghost use Rattle.rv32_decode.specs.Rows.{decoded};
+ghost use Rattle.text_fields.specs.Pages.{HasLineRoom, Spells, size};
+ghost use Rattle.event_stream.specs.Accesses.{accessed};
+ghost use Rattle.event_stream.specs.Comments.{start};
 ghost use Rattle.event_stream.specs.Disassembly.{AreKept};
 ghost use Rattle.event_stream.specs.Lines as lines;
 ghost use Rattle.event_stream.specs.Telling.{report_of};
 
+use crate::accesses::spell_access;
 use crate::disassembly::Disassembly;
 use crate::report::{Report, hart_of};
 use crate::spellings::spell_outcome;
@@ -13,6 +17,7 @@ use elf_symbols::Symbols;
 use hart::Retired;
 use machine_types::{Event, Outcome};
 use rv32_decode::decode;
+use rv32_exec::Action;
 use std::io::{Result, Write};
 use text_fields::Page;
 use trace_text::{put_log, put_performed, spell_event, spell_retired};
@@ -30,30 +35,88 @@ fn spell_event_line(page: &mut Page, index: usize, event: Event, outcome: Outcom
     page.text(b"\n");
 }
 
-/// An R line, with the instruction behind it.
-fn spell_retired_line(
+/// An R line up to the end of its instruction, and whether there is one: else the line is whole.
+fn spell_start(
     page: &mut Page,
     names: &Symbols,
     instructions: &mut Disassembly,
     hart: u8,
     entry: &Retired,
-)
+) -> bool
     requires room { HasLineRoom page.old }
     requires kept { AreKept names.now instructions.old }
-    ensures line { page.new ≡ page.old ++ lines.retired_line names.now hart entry.now }
+    ensures instruction { result ≡ is_some (decoded entry.now.word) }
+    ensures value { page.new ≡ page.old ++ start names.now hart entry.now }
+    ensures len { length page.new ≤ length page.old + 251 }
     ensures kept { AreKept names.now instructions.new }
 {
     if let Some(text) = instructions.text(entry.pc, entry.word) {
         spell_retired(page, hart as u64, entry, b' ');
         page.text(text);
-        return;
+        return true;
     }
     match decode(entry.word) {
         Some(instr) => {
             spell_retired(page, hart as u64, entry, b' ');
             instructions.spell(page, names, entry.pc, entry.word, &instr);
+            true
         }
-        None => spell_retired(page, hart as u64, entry, b'\n'),
+        None => {
+            spell_retired(page, hart as u64, entry, b'\n');
+            false
+        }
+    }
+}
+
+/// What an instruction did to memory, and the end of its line.
+fn spell_end(page: &mut Page, names: &Symbols, action: Action, entry: &Retired)
+    requires { HasLineRoom page.old }
+    ensures { page.new ≡ page.old ++ (accessed names.now (Some action) entry.now ++ 10 ∷ []) }
+{
+    spell_access(page, names, action, entry);
+    page.text(b"\n");
+}
+
+/// The same, where it is known what the instruction was to do.
+fn put_end<W: Write>(
+    page: &mut Page,
+    out: &mut W,
+    names: &Symbols,
+    action: Option<Action>,
+    entry: &Retired,
+) -> Result<()>
+    requires { length page.old + 1 ≤ size }
+    ensures { Spells (W.contents out.old) (W.contents out.new) page.old page.new (accessed names.now action entry.now ++ 10 ∷ []) result }
+{
+    match action {
+        Some(action) => {
+            page.make_room(out)?;
+            spell_end(page, names, action, entry);
+        }
+        None => page.text(b"\n"),
+    }
+    Ok(())
+}
+
+/// An R line, with the instruction behind it and what that did to memory.
+fn put_entry<W: Write>(
+    page: &mut Page,
+    out: &mut W,
+    names: &Symbols,
+    instructions: &mut Disassembly,
+    hart: u8,
+    action: Option<Action>,
+    entry: &Retired,
+) -> Result<()>
+    requires { AreKept names.now instructions.old }
+    ensures line { Spells (W.contents out.old) (W.contents out.new) page.old page.new (lines.retired_line names.now hart action entry.now) result }
+    ensures kept { AreKept names.now instructions.new }
+{
+    page.make_room(out)?;
+    if spell_start(page, names, instructions, hart, entry) {
+        put_end(page, out, names, action, entry)
+    } else {
+        Ok(())
     }
 }
 
@@ -63,15 +126,15 @@ fn put_entries<W: Write>(
     names: &Symbols,
     instructions: &mut Disassembly,
     hart: u8,
+    action: Option<Action>,
     entries: &[Retired],
 ) -> Result<()>
     requires { AreKept names.now instructions.old }
-    ensures lines { Spells (W.contents out.old) (W.contents out.new) page.old page.new (flat_map (lines.retired_line names.now hart) entries.now) result }
+    ensures lines { Spells (W.contents out.old) (W.contents out.new) page.old page.new (flat_map (lines.retired_line names.now hart action) entries.now) result }
     ensures kept { AreKept names.now instructions.new }
 {
     for entry in entries {
-        page.make_room(out)?;
-        spell_retired_line(page, names, instructions, hart, entry);
+        put_entry(page, out, names, instructions, hart, action, entry)?;
     }
     Ok(())
 }
@@ -111,7 +174,15 @@ pub(crate) fn put_report<W: Write>(
     let hart = hart_of(report.event);
     page.make_room(out)?;
     spell_event_line(page, report.index, report.event, report.outcome);
-    put_entries(page, out, names, instructions, hart, report.entries)?;
+    put_entries(
+        page,
+        out,
+        names,
+        instructions,
+        hart,
+        report.action,
+        report.entries,
+    )?;
     put_performed(page, out, report.performed)?;
     put_log(page, out, report.log)?;
     put_output(page, out, hart, report.output)

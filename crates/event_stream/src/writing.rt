@@ -14,7 +14,7 @@ ghost use Rattle.text_fields.specs.Writing.{Writes};
 use crate::closing::put_statuses;
 use crate::disassembly::Disassembly;
 use crate::errors::StreamError;
-use crate::report::{Lengths, Report, hart_of};
+use crate::report::{Lengths, Report, action_of, hart_of};
 use crate::report_writing::put_report;
 use crate::strictness::Strictness;
 use coherent_machine::Machine;
@@ -91,6 +91,7 @@ fn tell<W: Write>(
     let mut rest = events;
     while let [event, tail @ ..] = rest {
         let before = Lengths::of(machine, hart_of(*event));
+        let action = action_of(machine, *event);
         let outcome = match machine.apply(*event) {
             Ok(outcome) => outcome,
             Err(error) => return Err(ended_by(page, out, StreamError::Refused(index, error))),
@@ -98,7 +99,7 @@ fn tell<W: Write>(
         if strictness.ends_at(before.changes, machine.views().changes()) {
             return Err(ended_by(page, out, StreamError::Idle(index, outcome)));
         }
-        let report = Report::behind(&before, machine, index, *event, outcome);
+        let report = Report::behind(&before, action, machine, index, *event, outcome);
         if let Err(fault) = put_report(page, out, names, &mut instructions, &report) {
             return Err(StreamError::Writing(fault));
         }

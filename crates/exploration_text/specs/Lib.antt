@@ -1,3 +1,4 @@
+pub mod Failures
 pub mod Sampling
 pub mod Text
 pub mod Words

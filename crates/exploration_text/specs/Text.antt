@@ -1,5 +1,6 @@
 -- The parts of lines in which an exploration is told.
 use Rattle.std.specs.Prelude.{ℕ, zero, suc, ◌+◌, List, [], ◌∷◌, ◌++◌, Option, Some, None, codes, decimal}
+use Rattle.exploration_text.specs.Failures.{failures_part}
 use Rattle.explorer.specs.declared.exploration.Stuck.{Stuck}
 use Rattle.flat_model.specs.Shown.{HartEnd}
 use Rattle.hart_ends.specs.Ends.{hart_text}
@@ -26,7 +27,7 @@ abbrev pub stuck_line : Option Stuck → List ℕ
 stuck_line None = []
 stuck_line (Some stuck) = codes "stuck: " ++ (decimal stuck.states ++ codes " states from which no schedule ends\n")
 
-abbrev pub last_line : Extent → (outcomes states : ℕ) → List ℕ
-last_line Complete outcomes states = codes "complete: " ++ (decimal outcomes ++ (codes " outcomes, " ++ (decimal states ++ codes " states\n")))
-last_line LimitMet outcomes states = codes "incomplete: " ++ (decimal states ++ codes " states met\n")
-last_line OutOfMemory outcomes states = codes "incomplete: out of memory\n"
+abbrev pub last_line : Extent → (outcomes failures states : ℕ) → List ℕ
+last_line Complete outcomes failures states = codes "complete: " ++ (decimal outcomes ++ (codes " outcomes, " ++ (failures_part failures ++ (decimal states ++ codes " states\n"))))
+last_line LimitMet outcomes failures states = codes "incomplete: " ++ (decimal states ++ codes " states met\n")
+last_line OutOfMemory outcomes failures states = codes "incomplete: out of memory\n"

@@ -1,7 +1,9 @@
 -- The lines in which an exploration is told.
 use Rattle.std.specs.Prelude.{ℕ, ◌+◌, List, [], ◌∷◌, ◌++◌, codes, decimal, length}
+use Rattle.elf_symbols.specs.Named.{Named}
 use Rattle.exploration_text.specs.declared.wording.WordName.{WordName}
 use Rattle.exploration_text.specs.declared.wording.WordName.TheVariants.{Address, Symbol}
+use Rattle.exploration_text.specs.Failures.{failure_lines}
 use Rattle.exploration_text.specs.Text.{harts_text, last_line, stuck_line}
 use Rattle.flat_exploration.specs.Outcomes.{Outcome}
 use Rattle.text_fields.specs.Fields.{word}
@@ -34,6 +36,8 @@ abbrev pub end_lines : List WordName → ℕ → List Outcome → List ℕ
 end_lines names number [] = []
 end_lines names number (o ∷ os) = end_line names number o ++ end_lines names (number + 1) os
 
--- where words of memory are called so
-abbrev pub exploration_text : List WordName → Exploration → List ℕ
-exploration_text names e = end_lines names 1 (outcomes_of e.outcomes.items) ++ (stuck_line e.stuck ++ last_line e.extent (length e.outcomes.items) e.states)
+-- where words of memory, and addresses of the program, are called so
+abbrev pub exploration_text : List WordName → List Named → Exploration → List ℕ
+exploration_text names symbols e =
+    end_lines names 1 (outcomes_of e.outcomes.items)
+    ++ (failure_lines symbols 1 e.failures.items ++ (stuck_line e.stuck ++ last_line e.extent (length e.outcomes.items) (length e.failures.items) e.states))

@@ -1,6 +1,7 @@
 //! What is found of a program, as the lines that are printed.
 #![tactic(auto)]
 
+mod failures;
 mod sampling;
 mod spelling;
 mod wording;

@@ -4,6 +4,7 @@ ghost use Rattle.exploration_text.specs.Text as text;
 ghost use Rattle.explorer.specs.Ranks.{result_of};
 ghost use Rattle.flat_model.specs.Shown.{told};
 
+use crate::failures::spell_count;
 use explorer::Stuck;
 use flat_model::HartResult;
 use hart_ends::put_end;
@@ -68,15 +69,17 @@ pub(crate) fn spell_extent(
     into: &mut Vec<u8>,
     extent: Extent,
     outcomes: usize,
+    failures: usize,
     states: usize,
 ) -> Result<(), AllocError>
-    ensures { OnOk result (into.new.items ≡ into.old.items ++ text.last_line extent outcomes states) }
+    ensures { OnOk result (into.new.items ≡ into.old.items ++ text.last_line extent outcomes failures states) }
 {
     match extent {
         Extent::Complete => {
             into.extend_from_slice(b"complete: ")?;
             spell_number(into, outcomes as u64)?;
             into.extend_from_slice(b" outcomes, ")?;
+            spell_count(into, failures)?;
             spell_number(into, states as u64)?;
             into.extend_from_slice(b" states\n")?;
         }

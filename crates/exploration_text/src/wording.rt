@@ -3,7 +3,9 @@ ghost use Rattle.std.specs.Prelude.{◌≡◌, ◌++◌, IfOk, OnOk};
 ghost use Rattle.exploration_text.specs.Words as text;
 ghost use Rattle.explorer.specs.Ends.{outcome_of, outcome_with, outcomes_of};
 
+use crate::failures::spell_failures;
 use crate::spelling::{spell_extent, spell_harts, spell_number, spell_stuck};
+use elf_symbols::Symbols;
 use explorer::{Exploration, Found};
 use flat_model::HartResult;
 use std::alloc::{AllocError, Global};
@@ -110,21 +112,25 @@ pub fn end_text(
 }
 
 /// A line for each outcome, in order and counted from 1, where behind the harts stand the words by these names, perhaps
-/// none; one for the states from which no schedule ends, if there are any; and one that says whether these are all outcomes.
+/// none; one for each failure, its places by the names of these symbols; one for the states from which no schedule ends, if there are any; and one that says whether
+/// these are all outcomes, and all failures.
 pub fn text_of(
     alloc: Global,
     names: &[WordName<'_>],
+    symbols: &Symbols,
     exploration: &Exploration,
 ) -> Result<Vec<u8>, AllocError>
-    ensures { IfOk result (λ bytes. bytes.items ≡ text.exploration_text names.now exploration.now) }
+    ensures { IfOk result (λ bytes. bytes.items ≡ text.exploration_text names.now symbols.now exploration.now) }
 {
     let mut bytes = Vec::new(alloc);
     spell_outcomes(&mut bytes, names, &exploration.outcomes)?;
+    spell_failures(&mut bytes, symbols, &exploration.failures)?;
     spell_stuck(&mut bytes, &exploration.stuck)?;
     spell_extent(
         &mut bytes,
         exploration.extent,
         exploration.outcomes.len(),
+        exploration.failures.len(),
         exploration.states,
     )?;
     Ok(bytes)

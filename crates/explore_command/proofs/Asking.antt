@@ -1,5 +1,5 @@
 -- What is known of a search that shows words of memory before it begins, and what its first faults say and leave.
-use Rattle.std.proofs.Common.{◌≡◌, ◌⊎◌, ℕ, List, Option, inl, inr, subst, sym}
+use Rattle.std.proofs.Common.{◌≡◌, ◌⊎◌, ℕ, List, Option, inl, inr, refl, subst, sym}
 use Rattle.command_files.specs.Faults.{Name}
 use Rattle.command_files.specs.Contents.{Contents}
 use Rattle.command_files.specs.declared.fault.Fault.{Fault}
@@ -11,14 +11,17 @@ use Rattle.elf_symbols.specs.Named.{Named}
 use Rattle.script_commands.specs.Named.{HoldsNamedImage}
 use Rattle.explore_command.proofs.Faults.{first_left, first_told}
 use Rattle.explore_command.specs.Exploring.{IsExploreFault, IsFirstFault, LeavesPart}
-use Rattle.explore_command.specs.Asking.{HasProgram, HasUnshown, IsAskingFault}
+use Rattle.explore_command.specs.Asking.{HasProgram, HasProgramBy, HasUnshown, IsAskingFault}
 use Rattle.explore_command.specs.Targets.{AreAddressesOf, IsUnplaced, IsUnshown}
-use Rattle.explorer.specs.Words.{CanShowEach}
+use Rattle.performed_words.specs.Words.{CanShowEach}
 
 module _ (held first : Contents) (explore : Explore) (words : List Name) (image : Initial) (symbols : List Named) (same : first ≡ held)
     (file : HoldsNamedImage first explore.raw explore.image.now explore.machine.memory image symbols) where
   image_file : HoldsNamedImage held explore.raw explore.image.now explore.machine.memory image symbols
   image_file = subst (λ (h : Contents). HoldsNamedImage h explore.raw explore.image.now explore.machine.memory image symbols) same file
+
+  pub program_by : (addresses : List ℕ) → AreAddressesOf symbols words addresses → CanShowEach image addresses → HasProgramBy held explore words image symbols addresses
+  program_by addresses placed inside = (record { symbols = symbols; image_file = image_file; placed = placed; inside = inside }, refl)
 
   pub program : (addresses : List ℕ) → AreAddressesOf symbols words addresses → CanShowEach image addresses → HasProgram held explore words image addresses
   program addresses placed inside = record { symbols = symbols; image_file = image_file; placed = placed; inside = inside }

@@ -100,7 +100,7 @@ way_of_left left front done all last folder path left_is whole path_is =
 pub spares_one : (held before after : Contents) (config : Config) (kib : ℕ) (folder path : FileName) (left front done all : List Outcome) (last : Outcome) → left ≡ front ++ last ∷ [] → left ++ done ≡ all → path ≡ file_path folder (length left) last.way
     → ((other : FileName) → other ≢ path → after other ≡ before other) → SparesOthers (IsWayFile 1 all folder) held before → SparesOthers (IsWayFile 1 all folder) held after
 spares_one held before after config kib folder path left front done all last left_is whole path_is others =
-    spares_more before after config kib folder path others (IsWayFile 1 all folder) held (way_of_left left front done all last folder path left_is whole path_is)
+    spares_more before after path others (IsWayFile 1 all folder) held (way_of_left left front done all last folder path left_is whole path_is)
 
 -- each is one that may be written
 way_in : (number : ℕ) (outcomes : List Outcome) (folder name : FileName) → IsWayFile number outcomes folder name → IsFileIn folder name

@@ -30,10 +30,11 @@ use Rattle.std.specs.Prelude.{min}
 use Rattle.std.specs.List.Sorted.{IsStrictlySortedBy}
 use Rattle.std.specs.Ordering.{on}
 use Rattle.std.specs.declared.alloc.AllocError.{AllocError}
-use Rattle.architecture_outcomes.specs.Outcomes.{IsDecided, IsWitnessed, TellsEachEnd}
+use Rattle.architecture_outcomes.specs.Outcomes.{IsDecided, IsWitnessed, TellsEachEnd, ends_of}
 use Rattle.architecture_outcomes.specs.Visited.{AreMachineStates, TellsEnd}
 use Rattle.explorer.specs.Ranks.{outcome_cmp}
 use Rattle.flat_model.specs.Flat.{Flat}
+use Rattle.window_model.specs.Complete.{TellsEachAllowed}
 use Rattle.window_search.specs.Openings.{NeverOpens}
 
 module _ (held : Contents) (wanted : Explore) (words : List Name) (window : ℕ) (config : Config) (image : Initial) (addresses : List ℕ) (names : List WordName) (found : Architecture)
@@ -80,8 +81,8 @@ module _ (held : Contents) (wanted : Explore) (words : List Name) (window : ℕ)
 -- what is said of it, fact by fact
 pub found_under : (image : Initial) (config : Config) (addresses : List ℕ) (window limit : ℕ) (r : Result Architecture AllocError) → IfOk r (λ a. All (IsWitnessed image config addresses) a.outcomes.items)
     → IfOk r (λ a. a.machine ≡ extent.Complete → TellsEachEnd image config addresses a.outcomes.items) → IfOk r (λ a. a.machine ≡ extent.Complete → All (λ o. IsDecided o.way) a.outcomes.items)
-    → IfOk r (λ a. a.reach ≡ reach.Whole → a.states ≡ 0 → NeverOpens image config) → IfOk r (λ a. a.reach ≢ reach.LimitMet → a.reach ≢ reach.OutOfMemory → a.states ≤ limit) → IfOk r (λ a. IsStrictlySortedBy (on end_of outcome_cmp) a.outcomes.items)
+    → IfOk r (λ a. a.reach ≡ reach.Whole → TellsEachAllowed image config addresses (ends_of a.outcomes.items)) → IfOk r (λ a. a.reach ≡ reach.Whole → a.states ≡ 0 → NeverOpens image config) → IfOk r (λ a. a.reach ≢ reach.LimitMet → a.reach ≢ reach.OutOfMemory → a.states ≤ limit) → IfOk r (λ a. IsStrictlySortedBy (on end_of outcome_cmp) a.outcomes.items)
     → IfOk r (λ a. a.machine_states ≤ limit) → IfOk r (λ a. a.machine ≡ extent.LimitMet → a.machine_states ≡ limit) → IfOk r (λ a. a.model ≡ config.model)
     → IfOk r (λ a. (states : List Flat) × AreMachineStates image config addresses a.machine a.machine_states (TellsEnd a.outcomes.items) states) → IfOk r (λ a. a.window ≡ min window 64) → IfOk r (IsFoundUnder image config addresses window limit)
-found_under image config addresses window limit (Ok a) shown machine alone opens bounded order within full model visited width = record { shown = shown; machine = machine; alone = alone; opens = opens; bounded = bounded; order = order; within = within; full = full; model = model; visited = visited; window_is = width }
-found_under image config addresses window limit (Err error) shown machine alone opens bounded order within full model visited width = tt
+found_under image config addresses window limit (Ok a) shown machine alone allowed opens bounded order within full model visited width = record { shown = shown; machine = machine; alone = alone; allowed = allowed; opens = opens; bounded = bounded; order = order; within = within; full = full; model = model; visited = visited; window_is = width }
+found_under image config addresses window limit (Err error) shown machine alone allowed opens bounded order within full model visited width = tt

@@ -22,12 +22,13 @@ use Rattle.explore_command.specs.declared.judging.Judgement.TheVariants.{Allowed
 use Rattle.explorer.specs.declared.exploration.Exploration.{Exploration}
 use Rattle.flat_exploration.specs.Outcomes.{Outcome}
 use Rattle.machine_types.specs.declared.config.Config.{Config}
-use Rattle.explore_command.specs.Asking.{HasProgram, HasUnshown}
+use Rattle.explore_command.specs.Asking.{HasProgramBy, HasUnshown}
 use Rattle.explore_command.specs.Showing.{AreWordsShown, IsFirstOf, IsOfFile, IsShowFault, WordRefusals, WordsHave}
-use Rattle.explore_command.specs.Targets.{IsTarget, IsUnplaced, IsUnshown, name_of, names_of, place_of}
+use Rattle.explore_command.specs.Targets.{AreAddressesOf, IsTarget, IsUnplaced, IsUnshown, name_of, names_of, place_of}
+use Rattle.script_commands.specs.Named.{HoldsNamedImage}
 use Rattle.state_search.specs.declared.findings.Extent.TheVariants as extent
 use Rattle.explorer.specs.Ends.{outcome_of}
-use Rattle.explorer.specs.Words.{CanShow}
+use Rattle.performed_words.specs.Words.{CanShow}
 
 -- ---- what is allowed
 
@@ -45,13 +46,18 @@ told_of outcome held allow text names told xs fails P same read so =
 
 -- ---- what was found
 
-module _ (held : Contents) (show : Show) (config : Config) (image : Initial) (addresses : List ℕ) (words : List Name) (names : List WordName) (found : Exploration) (inside : IsInside show.explore.machine) (config_is : config ≡ config_named show.explore.machine inside)
-    (words_are : words ≡ show.words.items) (program : HasProgram held show.explore words image addresses) (named : names ≡ names_of words) (is : IsFoundIn image config addresses show.explore.states found) where
+module _ (held : Contents) (show : Show) (config : Config) (image : Initial) (symbols : List Named) (addresses : List ℕ) (words : List Name) (names : List WordName) (found : Exploration) (inside : IsInside show.explore.machine) (config_is : config ≡ config_named show.explore.machine inside)
+    (words_are : words ≡ show.words.items) (program : HasProgramBy held show.explore words image symbols addresses) (named : names ≡ names_of words) (is : IsFoundIn image config addresses show.explore.states found) where
   pub of_file : IsOfFile held show found
   of_file = record {
     image = image;
     addresses = addresses;
-    program = subst (λ (w : List Name). HasProgram held show.explore w image addresses) words_are program;
+    program = record {
+      symbols = symbols;
+      image_file = subst (λ (s : List Named). HoldsNamedImage held show.explore.raw show.explore.image.now show.explore.machine.memory image s) program.1 program.0.image_file;
+      placed = subst (λ (w : List Name). AreAddressesOf symbols w addresses) words_are (subst (λ (s : List Named). AreAddressesOf s words addresses) program.1 program.0.placed);
+      inside = program.0.inside;
+    };
     inside = inside;
     found = subst (λ (c : Config). IsFoundIn image c addresses show.explore.states found) config_is is;
   }
@@ -60,28 +66,30 @@ module _ (held : Contents) (show : Show) (config : Config) (image : Initial) (ad
   names_are = named ∙ ap names_of words_are
 
   -- what holds of the text that these names make, holds of what was found
-  pub has : (P : List ℕ → Type 0) → P (exploration_text names found) → WordsHave held show P
-  has P so = record { exploration = found; of_file = of_file; of_text = subst (λ (n : List WordName). P (exploration_text n found)) names_are so }
+  pub has : (P : List ℕ → Type 0) → P (exploration_text names symbols found) → WordsHave held show P
+  unfolding of_file
+  has P so = record { exploration = found; of_file = of_file; of_text = subst (λ (n : List WordName). P (exploration_text n symbols found)) names_are so }
 
   -- and so with what is to be told of its outcomes
-  pub refused : (old new : Option (List ℕ)) (P : List ℕ → Type 0) (text : Option (List ℕ)) → Appends old new (exploration_text names found) → IsAllowFile held show.explore.allow text
+  pub refused : (old new : Option (List ℕ)) (P : List ℕ → Type 0) (text : Option (List ℕ)) → Appends old new (exploration_text names symbols found) → IsAllowFile held show.explore.allow text
       → P (refusals text (map (λ f. end_text names (outcome_of f)) found.outcomes.items) ++ exploration_fails show.explore.fail_on found) → WordRefusals held show old new P
+  unfolding of_file
   refused old new P text printed read so = record {
     exploration = found;
     of_file = of_file;
-    printed = subst (λ (n : List WordName). Appends old new (exploration_text n found)) names_are printed;
+    printed = subst (λ (n : List WordName). Appends old new (exploration_text n symbols found)) names_are printed;
     refusals = told_of outcome_of held show.explore.allow text names (names_of show.words.items) found.outcomes.items (exploration_fails show.explore.fail_on found) P names_are read so;
   }
 
   -- all of it was done
-  pub shown : (old new : Option (List ℕ)) (left : Contents) (judgement : Judgement) (text : Option (List ℕ)) → Appends old new (exploration_text names found) → HasName show.explore.scripts → IfSome show.explore.scripts (λ folder. AreKept left config show.explore.machine.memory folder.now found)
-      → SparesOthers (IsInNamed show.explore.scripts (IsScriptOf (length found.outcomes.items) found.stuck)) held left → IsAllowFile held show.explore.allow text
+  pub shown : (old new : Option (List ℕ)) (left : Contents) (judgement : Judgement) (text : Option (List ℕ)) → Appends old new (exploration_text names symbols found) → HasName show.explore.scripts → IfSome show.explore.scripts (λ folder. AreKept left config show.explore.machine.memory folder.now found)
+      → SparesOthers (IsInNamed show.explore.scripts (IsScriptOf (length found.outcomes.items) (length found.failures.items) found.stuck)) held left → IsAllowFile held show.explore.allow text
       → judgement ≡ judgement_of_lines text (map (λ f. end_text names (outcome_of f)) found.outcomes.items) (exploration_fails show.explore.fail_on found) → (judgement ≡ Allowed → found.extent ≢ extent.OutOfMemory) → AreWordsShown held left show judgement old new
   unfolding of_file
   shown old new left judgement text printed folder kept spares read by whole = record {
     exploration = found;
     of_file = of_file;
-    printed = subst (λ (n : List WordName). Appends old new (exploration_text n found)) names_are printed;
+    printed = subst (λ (n : List WordName). Appends old new (exploration_text n symbols found)) names_are printed;
     named = folder;
     kept = subst (λ (c : Config). IfSome show.explore.scripts (λ folder. AreKept left c show.explore.machine.memory folder.now found)) config_is kept;
     spared = spares;

@@ -39,7 +39,7 @@ abbrev pub line_if : Bool → List ℕ → List ℕ
 line_if met line = if met then line else []
 
 abbrev pub failure_line : List ℕ
-failure_line = codes "a hart stopped in an outcome (--fail-on failure)\n"
+failure_line = codes "a hart stopped (--fail-on failure)\n"
 
 abbrev pub stuck_line : List ℕ
 stuck_line = codes "from some state no schedule ends (--fail-on stuck)\n"
@@ -47,7 +47,7 @@ stuck_line = codes "from some state no schedule ends (--fail-on stuck)\n"
 abbrev pub incomplete_line : List ℕ
 incomplete_line = codes "not all was searched (--fail-on incomplete)\n"
 
--- a line for each of what the list has that a search came to: a hart that stopped in an outcome, a state from which no schedule ends, and an end of the search before all was searched
+-- a line for each of what the list has that a search came to: a hart that stopped, a state from which no schedule ends, and an end of the search before all was searched
 abbrev pub fail_lines : Option Name → (failure stuck incomplete : Bool) → List ℕ
 fail_lines list failure stuck incomplete =
     (line_if (lists (codes "failure") list && failure) failure_line

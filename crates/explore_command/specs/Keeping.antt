@@ -7,6 +7,7 @@ use Rattle.command_files.specs.Sizes.{script_for}
 use Rattle.explorer.specs.declared.exploration.Exploration.{Exploration}
 use Rattle.explorer.specs.declared.exploration.Stuck.{Stuck}
 use Rattle.explorer.specs.declared.found.Found.{Found}
+use Rattle.explorer.specs.declared.found.FoundFailure.{FoundFailure}
 use Rattle.explorer.specs.declared.found.Realisation.{Realisation}
 use Rattle.explorer.specs.declared.found.Realisation.TheVariants.{Events}
 use Rattle.machine_types.specs.declared.config.Config.{Config}
@@ -18,6 +19,10 @@ FileName = List ℕ
 abbrev pub outcome_path : FileName → ℕ → FileName
 outcome_path folder number = folder ++ (codes "/outcome-" ++ (decimal number ++ codes ".script"))
 
+-- FOLDER/failure-NUMBER.script
+abbrev pub failure_path : FileName → ℕ → FileName
+failure_path folder number = folder ++ (codes "/failure-" ++ (decimal number ++ codes ".script"))
+
 -- FOLDER/stuck.script
 abbrev pub stuck_path : FileName → FileName
 stuck_path folder = folder ++ codes "/stuck.script"
@@ -27,26 +32,44 @@ abbrev pub IsKeptAt : Contents → Config → (kib : ℕ) → FileName → Reali
 IsKeptAt left config kib path (Events events) = HoldsScript left path (script_for config kib events.items)
 IsKeptAt left config kib path _ = ⊥
 
--- each outcome's script, counted from a number on
-abbrev pub AreKeptFrom : Contents → Config → (kib : ℕ) → FileName → ℕ → List Found → Type 0
-AreKeptFrom left config kib folder number [] = Unit {0}
-AreKeptFrom left config kib folder number (found ∷ rest) = IsKeptAt left config kib (outcome_path folder number) found.script × AreKeptFrom left config kib folder (number + 1) rest
+-- each one's script in the file of its number, counted from a number on
+abbrev pub AreNumbered : {X : Type 0} → Contents → Config → (kib : ℕ) → (path : ℕ → FileName) (script : X → Realisation) → ℕ → List X → Type 0
+AreNumbered left config kib path script number [] = Unit {0}
+AreNumbered left config kib path script number (x ∷ rest) = IsKeptAt left config kib (path number) (script x) × AreNumbered left config kib path script (number + 1) rest
 
--- each outcome's script, and one that gets stuck, if any does
-abbrev pub AreKept : Contents → Config → (kib : ℕ) → FileName → Exploration → Type 0
-AreKept left config kib folder e = AreKeptFrom left config kib folder 1 e.outcomes.items × IfSome e.stuck (λ stuck. IsKeptAt left config kib (stuck_path folder) stuck.script)
+-- each outcome's script
+abbrev pub AreKeptFrom : Contents → Config → (kib : ℕ) → FileName → ℕ → List Found → Type 0
+AreKeptFrom left config kib folder = AreNumbered left config kib (outcome_path folder) (λ (f : Found). f.script)
+
+-- each failure's script
+abbrev pub AreFailuresKept : Contents → Config → (kib : ℕ) → FileName → ℕ → List FoundFailure → Type 0
+AreFailuresKept left config kib folder = AreNumbered left config kib (failure_path folder) (λ (f : FoundFailure). f.script)
+
+-- each outcome's script, each failure's, and one that gets stuck, if any does
+pub record AreKept (left : Contents) (config : Config) (kib : ℕ) (folder : FileName) (e : Exploration) : Type 0 where
+  pub outcomes : AreKeptFrom left config kib folder 1 e.outcomes.items
+  pub failures : AreFailuresKept left config kib folder 1 e.failures.items
+  pub stuck : IfSome e.stuck (λ stuck. IsKeptAt left config kib (stuck_path folder) stuck.script)
 
 -- the file is one of those scripts
 abbrev pub IsScriptIn : FileName → FileName → Type 0
-IsScriptIn folder name = ((number : ℕ) × (name ≡ outcome_path folder number)) ⊎ (name ≡ stuck_path folder)
+IsScriptIn folder name = ((number : ℕ) × (name ≡ outcome_path folder number)) ⊎ (((number : ℕ) × (name ≡ failure_path folder number)) ⊎ (name ≡ stuck_path folder))
+
+-- the file is that of one of so many numbers
+abbrev pub IsNumbered : (path : ℕ → FileName) (count : ℕ) (name : FileName) → Type 0
+IsNumbered path count name = (i : ℕ) × (i < count) × (name ≡ path (i + 1))
 
 -- the file is the script of one of so many outcomes
 abbrev pub IsOutcomeScript : (count : ℕ) (folder name : FileName) → Type 0
-IsOutcomeScript count folder name = (i : ℕ) × (i < count) × (name ≡ outcome_path folder (i + 1))
+IsOutcomeScript count folder name = IsNumbered (outcome_path folder) count name
+
+-- or of one of so many failures
+abbrev pub IsFailureScript : (count : ℕ) (folder name : FileName) → Type 0
+IsFailureScript count folder name = IsNumbered (failure_path folder) count name
 
 -- or that of what gets stuck, if anything does
-abbrev pub IsScriptOf : (count : ℕ) (stuck : Option Stuck) (folder name : FileName) → Type 0
-IsScriptOf count stuck folder name = IsOutcomeScript count folder name ⊎ (IsSome stuck × (name ≡ stuck_path folder))
+abbrev pub IsScriptOf : (outcomes failures : ℕ) (stuck : Option Stuck) (folder name : FileName) → Type 0
+IsScriptOf outcomes failures stuck folder name = IsOutcomeScript outcomes folder name ⊎ (IsFailureScript failures folder name ⊎ (IsSome stuck × (name ≡ stuck_path folder)))
 
 -- a folder was named, and the file is one of these in it
 abbrev pub IsInNamed : Option (Bor FileName) → (FileName → FileName → Type 0) → FileName → Type 0

@@ -1,11 +1,11 @@
 -- What it means that a search which was to fail on anything passed.
-use Rattle.std.specs.Prelude.{ℕ, ◌≡◌, ◌&&◌, Bool, true, false, List, [], Option, codes}
+use Rattle.std.specs.Prelude.{ℕ, ◌≡◌, true, false, List, [], Option, codes}
 use Rattle.command_files.specs.Contents.{Contents}
 use Rattle.command_files.specs.Faults.{Name}
 use Rattle.command_files.specs.Sizes.{config_named}
 use Rattle.command_settings.specs.Settings.{lists}
 use Rattle.command_settings.specs.declared.wanted.Explore.{Explore}
-use Rattle.elf_loader.specs.Image.{Initial, IsImage}
+use Rattle.elf_loader.specs.Image.{Initial}
 use Rattle.explore_command.specs.Exploring.{IsExplorationTold}
 use Rattle.explore_command.specs.Judging.{has_stopped}
 use Rattle.explore_command.specs.declared.judging.Judgement.TheVariants.{Allowed}
@@ -19,14 +19,10 @@ use Rattle.schedules.specs.Schedules.{led}
 abbrev pub NoneStops : Initial → Config → Type 0
 NoneStops image config = (events : List Event) → has_stopped (results (led image config events)) ≡ false
 
--- the list has all that a search may come to
-abbrev pub lists_all : Option Name → Bool
-lists_all list = lists (codes "failure") list && (lists (codes "stuck") list && lists (codes "incomplete") list)
-
--- no hart ever stops, and wherever flat events lead, some more lead to where all harts have ended
-pub record IsSafe (image : Initial) (config : Config) : Type 0 where
-  pub none_stops : NoneStops image config
-  pub ends : CanAlwaysEnd image config []
+-- no hart ever stops, where the list has `failure` and `incomplete`; and wherever flat events lead, some more lead to where all harts have ended, where it has `stuck` and `incomplete`
+pub record IsSafe (list : Option Name) (image : Initial) (config : Config) : Type 0 where
+  pub none_stops : lists (codes "failure") list ≡ true → lists (codes "incomplete") list ≡ true → NoneStops image config
+  pub ends : lists (codes "stuck") list ≡ true → lists (codes "incomplete") list ≡ true → CanAlwaysEnd image config []
 
 abbrev pub PassingIsSafe : Type 0
-PassingIsSafe = (held left : Contents) (wanted : Explore) (old new : Option (List ℕ)) (told : IsExplorationTold held left wanted Allowed old new) → IsImage told.image → lists_all wanted.fail_on ≡ true → IsSafe told.image (config_named wanted.machine told.inside)
+PassingIsSafe = (held left : Contents) (wanted : Explore) (old new : Option (List ℕ)) (told : IsExplorationTold held left wanted Allowed old new) → IsSafe wanted.fail_on told.image (config_named wanted.machine told.inside)

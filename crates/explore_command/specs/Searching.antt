@@ -6,7 +6,7 @@ use Rattle.std.specs.Ordering.{on}
 use Rattle.explore_command.specs.ModelKeeping.{AreWaysKept, IsWayFile}
 use Rattle.explore_command.specs.Telling.{AreRemarked}
 use Rattle.architecture_outcomes.specs.declared.architecture.Architecture.{Architecture}
-use Rattle.architecture_outcomes.specs.Outcomes.{IsDecided, IsWitnessed, TellsEachEnd, end_of}
+use Rattle.architecture_outcomes.specs.Outcomes.{IsDecided, IsWitnessed, TellsEachEnd, end_of, ends_of}
 use Rattle.architecture_outcomes.specs.Text.{architecture_text}
 use Rattle.architecture_outcomes.specs.Visited.{AreMachineStates, TellsEnd}
 use Rattle.command_files.specs.Faults.{Name}
@@ -28,18 +28,20 @@ use Rattle.explore_command.specs.Targets.{names_of}
 use Rattle.state_search.specs.declared.findings.Extent.{Extent}
 use Rattle.state_search.specs.declared.findings.Extent.TheVariants.{Complete, LimitMet}
 use Rattle.state_search.specs.declared.findings.Extent.TheVariants as extent
+use Rattle.window_model.specs.Complete.{TellsEachAllowed}
 use Rattle.window_search.specs.Openings.{NeverOpens}
 use Rattle.window_search.specs.declared.left_out.Reach.{Reach}
 use Rattle.window_search.specs.declared.left_out.Reach.TheVariants as reach
 use Rattle.explorer.specs.Ranks.{outcome_cmp}
 
 -- what is said to show an outcome does; where the machine's own search is complete, each of its outcomes is told as one of the machine, and each other as the model's alone;
--- the search under the model finds no state only where a hart never comes from reset to an access or its end, or says that it left out more; the machine's search finds no more states than the limit, and says where it met it; the model's finds no more, unless it says that it met a limit or that memory ended;
+-- where the search under the model left nothing out, each outcome that the model allows is told; that search finds no state only where a hart never comes from reset to an access or its end, or says that it left out more; the machine's search finds no more states than the limit, and says where it met it; the model's finds no more, unless it says that it met a limit or that memory ended;
 -- the outcomes stand in their order, each once; unless memory ended the machine's search, each end among its states is told as the machine's; the window told is the one asked for, 64 where that is more
 pub record IsFoundUnder (image : Initial) (config : Config) (addresses : List ℕ) (window limit : ℕ) (found : Architecture) : Type 0 where
   pub shown : All (IsWitnessed image config addresses) found.outcomes.items
   pub machine : found.machine ≡ Complete → TellsEachEnd image config addresses found.outcomes.items
   pub alone : found.machine ≡ Complete → All (λ o. IsDecided o.way) found.outcomes.items
+  pub allowed : found.reach ≡ reach.Whole → TellsEachAllowed image config addresses (ends_of found.outcomes.items)
   pub opens : found.reach ≡ reach.Whole → found.states ≡ 0 → NeverOpens image config
   pub bounded : found.reach ≢ reach.LimitMet → found.reach ≢ reach.OutOfMemory → found.states ≤ limit
   pub order : IsStrictlySortedBy (on end_of outcome_cmp) found.outcomes.items

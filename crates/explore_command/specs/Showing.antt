@@ -36,10 +36,10 @@ pub record IsOfFile (held : Contents) (show : Show) (exploration : Exploration) 
 pub record AreWordsShown (held left : Contents) (show : Show) (judgement : Judgement) (old new : Option (List ℕ)) : Type 0 where
   pub exploration : Exploration
   pub of_file : IsOfFile held show exploration
-  pub printed : Appends old new (exploration_text (names_of show.words.items) exploration)
+  pub printed : Appends old new (exploration_text (names_of show.words.items) of_file.program.symbols exploration)
   pub named : HasName show.explore.scripts
   pub kept : IfSome show.explore.scripts (λ folder. AreKept left (config_named show.explore.machine of_file.inside) show.explore.machine.memory folder.now exploration)
-  pub spared : SparesOthers (IsInNamed show.explore.scripts (IsScriptOf (length exploration.outcomes.items) exploration.stuck)) held left
+  pub spared : SparesOthers (IsInNamed show.explore.scripts (IsScriptOf (length exploration.outcomes.items) (length exploration.failures.items) exploration.stuck)) held left
   pub judged : IsJudged held show.explore.allow (map (λ f. end_text (names_of show.words.items) (outcome_of f)) exploration.outcomes.items) (exploration_fails show.explore.fail_on exploration) judgement
   pub whole : judgement ≡ Allowed → exploration.extent ≢ extent.OutOfMemory
 
@@ -47,13 +47,13 @@ pub record AreWordsShown (held left : Contents) (show : Show) (judgement : Judge
 pub record WordsHave (held : Contents) (show : Show) (P : List ℕ → Type 0) : Type 0 where
   pub exploration : Exploration
   pub of_file : IsOfFile held show exploration
-  pub of_text : P (exploration_text (names_of show.words.items) exploration)
+  pub of_text : P (exploration_text (names_of show.words.items) of_file.program.symbols exploration)
 
 -- P holds of what is to be told of the outcomes that were printed
 pub record WordRefusals (held : Contents) (show : Show) (old new : Option (List ℕ)) (P : List ℕ → Type 0) : Type 0 where
   pub exploration : Exploration
   pub of_file : IsOfFile held show exploration
-  pub printed : Appends old new (exploration_text (names_of show.words.items) exploration)
+  pub printed : Appends old new (exploration_text (names_of show.words.items) of_file.program.symbols exploration)
   pub refusals : HaveRefusals held show.explore.allow (map (λ f. end_text (names_of show.words.items) (outcome_of f)) exploration.outcomes.items) (exploration_fails show.explore.fail_on exploration) P
 
 -- ---- faults

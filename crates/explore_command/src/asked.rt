@@ -7,19 +7,24 @@ ghost use Rattle.command_files.specs.Sizes.{IsInside, IsOutside, config_named};
 ghost use Rattle.elf_loader.specs.Size.{IsMemoryKib};
 ghost use Rattle.explore_command.specs.Exploring.{IsAllowFile, IsFirstFault, IsNamedBy};
 ghost use Rattle.explore_command.specs.Keeping.{HasName};
+ghost use Rattle.script_commands.specs.Named.{HoldsNamedImage};
 
 use crate::keeping::check_folder;
 use crate::no_outcomes::remark_no_outcomes;
-use command_files::{Fault, Files, contents, image_in, named_config, out_of_limits};
+use command_files::{Fault, Files, contents, named_config, out_of_limits};
 use command_settings::Explore;
 use elf_loader::Image;
+use elf_symbols::Symbols;
 use machine_types::Config;
+use script_commands::named_image_in;
 use std::alloc::Global;
 
 /// The machine and the program that a search is asked of.
 pub(crate) struct Asked {
     pub config: Config,
     pub image: Image,
+    /// The names that the image's file has.
+    pub symbols: Symbols,
     /// The text that says which outcomes are allowed, where a file was named for it.
     pub allowed: Option<Vec<u8>>,
 }
@@ -30,6 +35,7 @@ impl Drop for Asked {
         let Asked {
             config: _,
             image: _,
+            symbols: _,
             allowed: _,
         } = self;
     }
@@ -46,6 +52,7 @@ impl Asked {
         ensures config { IfOk result (λ asked. (inside : IsInside wanted.entry.machine) × (asked.config ≡ config_named wanted.entry.machine inside)) }
         ensures memory { IfOk result (λ asked. IsMemoryKib wanted.entry.machine.memory) }
         ensures image { IfOk result (λ asked. HoldsImage (F.held files.old) wanted.entry.raw wanted.entry.image.now wanted.entry.machine.memory asked.image) }
+        ensures symbols { IfOk result (λ asked. HoldsNamedImage (F.held files.old) wanted.entry.raw wanted.entry.image.now wanted.entry.machine.memory asked.image asked.symbols) }
         ensures allowed { IfOk result (λ asked. IsAllowFile (F.held files.old) wanted.entry.allow (option_map (λ bytes. bytes.items) asked.allowed)) }
         ensures named { IfOk result (λ _. HasName wanted.entry.scripts) }
         ensures outside { IsOutside wanted.entry.machine → result ≡ Err Fault.Configuration }
@@ -56,7 +63,7 @@ impl Asked {
             return Err(out_of_limits(alloc, files, wanted.machine));
         };
         let allowed = allow_file(alloc, files, wanted.allow)?;
-        let image = image_in(
+        let named = named_image_in(
             alloc,
             files,
             wanted.raw,
@@ -66,7 +73,8 @@ impl Asked {
         check_folder(alloc, files, wanted, config)?;
         Ok(Asked {
             config,
-            image,
+            image: named.image,
+            symbols: named.names,
             allowed,
         })
     }

@@ -8,6 +8,7 @@ ghost use Rattle.explore_command.specs.Keeping.{IsScriptFile, SparesOthers};
 ghost use Rattle.text_fields.specs.Writing.{Begins};
 
 use crate::asked::Asked;
+use crate::exploration::Explored;
 use crate::findings::print;
 use crate::judging::{Judgement, judge};
 use crate::keeping::keep;
@@ -58,8 +59,12 @@ pub fn explore_files<'a, F: Files, O: Write, E: Write, P: Progress>(
         (Begins (E.contents err.old) (E.contents err.new))) }
 {
     let asked = Asked::read(alloc, files, wanted)?;
-    let Ok(found) = found_in(alloc, &asked, wanted, progress) else {
+    let Ok(exploration) = found_in(alloc, &asked, wanted, progress) else {
         return Err(Fault::OutOfMemory);
+    };
+    let found = Explored {
+        symbols: &asked.symbols,
+        exploration,
     };
     print(alloc, &found, out)?;
     let judgement = judge(alloc, wanted, &asked.allowed, &found, err);

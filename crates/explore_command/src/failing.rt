@@ -1,6 +1,6 @@
 //! What a search may not come to, beside outcomes that aren't allowed.
 
-ghost use Rattle.std.specs.Prelude.{◌≡◌, ◌&&◌, ◌++◌, IfOk, OnOk, map};
+ghost use Rattle.std.specs.Prelude.{◌≡◌, ◌&&◌, ◌++◌, ◌||◌, IfOk, OnOk, map};
 ghost use Rattle.explore_command.specs.Judging.{fail_lines, has_stopped, have_failure, is_stopped, line_if};
 ghost use Rattle.flat_model.specs.Shown.{told};
 
@@ -17,14 +17,14 @@ pub(crate) fn fails_of<T: Findings>(
     found: &T,
 ) -> Result<Vec<u8>, AllocError>
     ensures { IfOk result (λ lines. lines.items
-        ≡ fail_lines wanted.entry.fail_on (have_failure (map T.harts (T.outcomes found.now))) (T.is_stuck found.now) (T.is_incomplete found.now)) }
+        ≡ fail_lines wanted.entry.fail_on (T.has_failures found.now || have_failure (map T.harts (T.outcomes found.now))) (T.is_stuck found.now) (T.is_incomplete found.now)) }
 {
     let mut lines = Vec::new(alloc);
     add_if(
         &mut lines,
         wanted.fails_on("failure"),
-        has_failure(found),
-        b"a hart stopped in an outcome (--fail-on failure)\n",
+        found.has_failures() || has_failure(found),
+        b"a hart stopped (--fail-on failure)\n",
     )?;
     add_if(
         &mut lines,

@@ -27,6 +27,9 @@ pub(crate) trait Findings {
     // How its harts ended.
     ghost harts: { Self.Outcome → List HartEnd };
 
+    // A hart was found to stop, whatever the other harts do then.
+    ghost has_failures: { Self → Bool };
+
     // A state was found from which no schedule ends.
     ghost is_stuck: { Self → Bool };
 
@@ -51,6 +54,10 @@ pub(crate) trait Findings {
     /// How its harts ended, by hart.
     fn harts(outcome: &Self::Outcome) -> &[HartResult]
         ensures { told result.now ≡ harts outcome.now };
+
+    /// Whether a hart was found to stop, whatever the other harts do then.
+    fn has_failures(&self) -> bool
+        ensures { result ≡ has_failures self.now };
 
     /// Whether a state was found from which no schedule ends.
     fn is_stuck(&self) -> bool

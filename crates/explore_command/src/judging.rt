@@ -1,6 +1,6 @@
 //! Whether the outcomes that were found are those that a file allows, and nothing else was that may not be.
 
-ghost use Rattle.std.specs.Prelude.{◌≡◌, ◌++◌, IfErr, IfOk, OnErr, OnOk, map, option_map};
+ghost use Rattle.std.specs.Prelude.{◌≡◌, ◌++◌, ◌||◌, IfErr, IfOk, OnErr, OnOk, map, option_map};
 ghost use Rattle.explore_command.specs.Judging.{IsToldBy, fail_lines, have_failure, judgement_of_lines, refusal_line, refusal_lines, refusals};
 
 use crate::allowing::{Allowed, without_number};
@@ -31,12 +31,12 @@ pub(crate) fn judge<'a, T: Findings, E: Write>(
     err: &mut E,
 ) -> Result<Judgement, Fault<'a>>
     ensures judged { IfOk result (λ judgement. judgement ≡ judgement_of_lines (option_map (λ bytes. bytes.items) allowed.now) (map (T.line found.now) (T.outcomes found.now))
-        (fail_lines wanted.entry.fail_on (have_failure (map T.harts (T.outcomes found.now))) (T.is_stuck found.now) (T.is_incomplete found.now))) }
+        (fail_lines wanted.entry.fail_on (T.has_failures found.now || have_failure (map T.harts (T.outcomes found.now))) (T.is_stuck found.now) (T.is_incomplete found.now))) }
     ensures whole { IfOk result (λ judgement. judgement ≡ Judgement.Allowed → T.IsWhole found.now) }
     ensures told { IfErr result (λ fault. fault ≡ Fault.OutOfMemory) }
     ensures noted { IfOk result (λ judgement. IsToldBy judgement (E.contents err.old) (E.contents err.new)
         (refusals (option_map (λ bytes. bytes.items) allowed.now) (map (T.line found.now) (T.outcomes found.now))
-        ++ fail_lines wanted.entry.fail_on (have_failure (map T.harts (T.outcomes found.now))) (T.is_stuck found.now) (T.is_incomplete found.now))) }
+        ++ fail_lines wanted.entry.fail_on (T.has_failures found.now || have_failure (map T.harts (T.outcomes found.now))) (T.is_stuck found.now) (T.is_incomplete found.now))) }
     ensures silent { OnErr result (E.contents err.new ≡ E.contents err.old) }
 {
     let Ok(lines) = lines_of(alloc, wanted, allowed, found) else {
@@ -62,7 +62,7 @@ fn lines_of<T: Findings>(
     found: &T,
 ) -> Result<Vec<u8>, AllocError>
     ensures { IfOk result (λ lines. lines.items ≡ refusals (option_map (λ bytes. bytes.items) allowed.now) (map (T.line found.now) (T.outcomes found.now))
-        ++ fail_lines wanted.entry.fail_on (have_failure (map T.harts (T.outcomes found.now))) (T.is_stuck found.now) (T.is_incomplete found.now)) }
+        ++ fail_lines wanted.entry.fail_on (T.has_failures found.now || have_failure (map T.harts (T.outcomes found.now))) (T.is_stuck found.now) (T.is_incomplete found.now)) }
 {
     let mut lines = refusals_by(alloc, allowed, found)?;
     let fails = fails_of(alloc, wanted, found)?;

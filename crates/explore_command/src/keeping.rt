@@ -7,14 +7,14 @@ ghost use Rattle.command_files.specs.Contents.{Contents, HoldsBytes};
 ghost use Rattle.command_files.specs.Sizes.{script_for};
 ghost use Rattle.elf_loader.specs.Size.{IsMemoryKib};
 ghost use Rattle.explore_command.specs.Exploring.{IsFolderFault, IsNamedBy};
-ghost use Rattle.explore_command.specs.Keeping.{AreKept, AreKeptFrom, FileName, HasName, IsInNamed, IsKeptAt, IsOutcomeScript, IsScriptOf, SparesOthers, outcome_path, stuck_path};
+ghost use Rattle.explore_command.specs.Keeping.{AreFailuresKept, AreKept, AreKeptFrom, FileName, HasName, IsFailureScript, IsInNamed, IsKeptAt, IsOutcomeScript, IsScriptOf, SparesOthers, failure_path, outcome_path, stuck_path};
 ghost use Rattle.machine_types.specs.declared.config.Config.{Config};
 ghost use Rattle.trace_text.specs.Scripts.{text};
 
 use crate::sparing::spare_what_is_read;
 use command_files::{Escaped, Fault, Files, remark, script_of};
 use command_settings::Explore;
-use explorer::{Exploration, Found, Realisation};
+use explorer::{Exploration, Found, FoundFailure, Realisation};
 use machine_types::{Config, Event};
 use notes::FileNote;
 use std::alloc::{AllocError, Global};
@@ -30,6 +30,8 @@ const NO_NAME: &str = "the folder's name is empty: name one that exists, or . fo
 pub(crate) enum Destination {
     /// The outcome of this number.
     Outcome(usize),
+    /// The failure of this number.
+    Failure(usize),
     /// A state from which no schedule ends.
     Stuck,
 }
@@ -38,6 +40,7 @@ impl Display for Destination {
     fn fmt<W: fmt::Write>(&self, f: &mut Formatter<W>) -> fmt::Result {
         match *self {
             Destination::Outcome(number) => write!(f, "outcome {number}"),
+            Destination::Failure(number) => write!(f, "failure {number}"),
             Destination::Stuck => f.write_str("a state from which no schedule ends"),
         }
     }
@@ -143,15 +146,16 @@ impl<'a> Folder<'a> {
         }
     }
 
-    /// Writes a script for each outcome, and one that gets stuck. One that has none can't be written.
+    /// Writes a script for each outcome, one for each failure, and one that gets stuck. One that has none can't be written.
     #[tactic(auto, using(crate::proofs::Kept::outcome_spared))]
     pub fn keep<F: Files>(&self, files: &mut F, found: &Exploration) -> Result<(), Fault<'a>>
         requires { IsMemoryKib self.now.kib }
         ensures kept { OnOk result (AreKept (F.held files.new) self.now.config self.now.kib self.now.name.now found.now) }
         ensures told { IfErr result (IsFolderFault self.now.name) }
-        ensures spared { SparesOthers (IsScriptOf (length found.now.outcomes.items) found.now.stuck self.now.name.now) (F.held files.old) (F.held files.new) }
+        ensures spared { SparesOthers (IsScriptOf (length found.now.outcomes.items) (length found.now.failures.items) found.now.stuck self.now.name.now) (F.held files.old) (F.held files.new) }
     {
         self.keep_outcomes(files, &found.outcomes)?;
+        self.keep_failures(files, &found.failures)?;
         let Some(stuck) = &found.stuck else {
             return Ok(());
         };
@@ -184,11 +188,41 @@ impl<'a> Folder<'a> {
         Ok(())
     }
 
+    /// Writes a script for each failure, the last one first.
+    fn keep_failures<F: Files>(
+        &self,
+        files: &mut F,
+        failures: &[FoundFailure],
+    ) -> Result<(), Fault<'a>>
+        requires { IsMemoryKib self.now.kib }
+        ensures kept { OnOk result (AreFailuresKept (F.held files.new) self.now.config self.now.kib self.now.name.now 1 failures.now) }
+        ensures told { IfErr result (IsFolderFault self.now.name) }
+        ensures spared { SparesOthers (IsFailureScript (length failures.now) self.now.name.now) (F.held files.old) (F.held files.new) }
+    {
+        let mut rest = failures;
+        while let [front @ .., last] = rest {
+            let number = rest.len();
+            let Ok(path) = self.failure_path(number) else {
+                return Err(Fault::OutOfMemory);
+            };
+            self.keep_at(files, &path, &last.script, Destination::Failure(number))?;
+            rest = front;
+        }
+        Ok(())
+    }
+
     pub fn outcome_path(&self, number: usize) -> Result<String, AllocError>
         ensures { IfOk result (λ path. string_bytes path ≡ outcome_path self.now.name.now number) }
     {
         let name = self.name;
         format!(in self.alloc; "{name}/outcome-{number}.script")
+    }
+
+    pub fn failure_path(&self, number: usize) -> Result<String, AllocError>
+        ensures { IfOk result (λ path. string_bytes path ≡ failure_path self.now.name.now number) }
+    {
+        let name = self.name;
+        format!(in self.alloc; "{name}/failure-{number}.script")
     }
 
     pub fn stuck_path(&self) -> Result<String, AllocError>

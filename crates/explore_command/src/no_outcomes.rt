@@ -9,8 +9,9 @@ use std::fmt::{self, Display, Formatter};
 use std::str;
 
 /// How lines begin that `explore` prints behind outcomes.
-const CLOSING: [&str; 6] = [
+const CLOSING: [&str; 7] = [
     "complete: ",
+    "failure ",
     "incomplete: ",
     "searched: ",
     "sampled: ",

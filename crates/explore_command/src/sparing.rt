@@ -2,18 +2,18 @@
 
 ghost use Rattle.std.specs.Prelude.{◌≡◌, ◌≢◌, IfErr, IsNone, OnOk, false};
 ghost use Rattle.explore_command.specs.Exploring.{IsFolderFault};
-ghost use Rattle.explore_command.specs.Keeping.{outcome_path};
+ghost use Rattle.explore_command.specs.Keeping.{failure_path, outcome_path};
 ghost use Rattle.explore_command.specs.Sparing.{AreOthers, IsOther};
 
 use crate::keeping::Folder;
 use command_files::{Escaped, Fault, Files, remark};
 use command_settings::Explore;
 
-/// Before which outcome's number a folder is looked at.
+/// Before which number of an outcome or a failure a folder is looked at.
 const NUMBERS: usize = 1_001;
 
 /// Refuses a folder where a script or a trace would be written over the program, or over the file of what is allowed,
-/// also by a link: as far as the first 1,000 outcomes and what gets stuck go.
+/// also by a link: as far as the first 1,000 outcomes and failures and what gets stuck go.
 pub(crate) fn spare_what_is_read<'a, F: Files>(
     folder: Folder<'a>,
     files: &mut F,
@@ -29,6 +29,7 @@ pub(crate) fn spare_what_is_read<'a, F: Files>(
     spare_path(folder, files, &stuck, wanted)?;
     for number in 1..NUMBERS {
         spare_outcome(folder, files, number, wanted)?;
+        spare_failure(folder, files, number, wanted)?;
     }
     Ok(())
 }
@@ -49,6 +50,23 @@ fn spare_outcome<'a, F: Files>(
     };
     spare_path(folder, files, &script, wanted)?;
     spare_trace(folder, files, number, wanted)
+}
+
+/// Refuses the folder where the script of this failure would be written over what is read.
+fn spare_failure<'a, F: Files>(
+    folder: Folder<'a>,
+    files: &mut F,
+    number: usize,
+    wanted: Explore<'_>,
+) -> Result<(), Fault<'a>>
+    ensures apart { OnOk result (IsOther wanted.entry (failure_path folder.entry.name.now number)) }
+    ensures told { IfErr result (IsFolderFault folder.entry.name) }
+    ensures stays { F.held files.new ≡ F.held files.old }
+{
+    let Ok(script) = folder.failure_path(number) else {
+        return Err(Fault::OutOfMemory);
+    };
+    spare_path(folder, files, &script, wanted)
 }
 
 /// Refuses the folder where the trace of this outcome would be written over what is read: without `--architecture` there

@@ -77,7 +77,3 @@ ended_unasked (address ∷ rest) s b is same = absurd (no_more address rest is)
 pub ended_asked : (addresses : List ℕ) (s : State) (b : Bool) → (length addresses == 0) ≡ false → (IsTrue b ↔ HasDrained s) → IsTrue b ↔ HasEnded addresses s
 ended_asked [] s b is so = absurd (true≢false is)
 ended_asked (address ∷ rest) s b is so = so
-
-pub none_mapped : (f : ℕ → ℕ) (addresses : List ℕ) → (length addresses == 0) ≡ true → map f addresses ≡ []
-none_mapped f [] is = refl
-none_mapped f (address ∷ rest) is = absurd (no_more address rest is)

@@ -7,3 +7,4 @@ mod Patched
 mod Performed
 mod Ends
 mod Counting
+mod Noted

@@ -6,6 +6,5 @@ pub mod Standing
 pub mod Stuck
 pub mod Visited
 pub mod Told
-pub mod FinalWords
-pub mod Words
+pub mod Failures
 pub mod Sampled

@@ -1,11 +1,12 @@
 //! Where the script to an end leads.
 ghost use Rattle.std.specs.Prelude.{◌≡◌, IsTrue, Ok, true};
-ghost use Rattle.flat_machine.specs.Onward.{are_aligned};
+ghost use Rattle.performed_words.specs.Words.{are_aligned};
 ghost use Rattle.explorer.specs.Ends.{ComesTo, outcome_with};
 
-use crate::final_words::{has_ended, words_of};
+use crate::final_words::has_ended;
 use coherent_machine::Machine;
 use flat_model::HartResult;
+use performed_words::words_of;
 use schedules::{Goal, HartResults};
 use std::alloc::{AllocError, Global};
 

@@ -5,4 +5,3 @@ mod reading;
 
 pub(crate) use memory::holds_patches;
 pub(crate) use reading::has_ended;
-pub use reading::words_of;

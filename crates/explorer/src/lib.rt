@@ -3,11 +3,12 @@
 #![tactic(auto)]
 
 mod account;
-mod addresses;
 mod effort;
 mod end;
 mod exploration;
 mod exploring;
+mod failing;
+mod failures;
 mod final_words;
 mod found;
 mod ranks;
@@ -15,11 +16,9 @@ mod samples;
 mod scripts;
 mod stuck;
 
-pub use addresses::can_show;
 pub use effort::Exploring;
 pub use exploration::{Exploration, Stuck};
 pub use exploring::explore;
-pub use final_words::words_of;
-pub use found::{Found, Realisation};
+pub use found::{Found, FoundFailure, Realisation};
 pub use ranks::compare;
 pub use samples::{SampleWatch, Sampled, Sampling, sample_ends};

@@ -4,15 +4,16 @@ use Rattle.std.specs.List.Sorted.{IsStrictlySortedBy}
 use Rattle.std.specs.Ordering.{on}
 use Rattle.std.specs.declared.alloc.AllocError.{AllocError}
 use Rattle.std.proofs.lemmas.List.Elements.{All-weaker}
-use Rattle.architecture_outcomes.specs.Outcomes.{IsDecided, IsWitnessed, TellsEachEnd, end_of}
+use Rattle.architecture_outcomes.specs.Outcomes.{IsDecided, IsWitnessed, TellsEachEnd, end_of, ends_of}
 use Rattle.architecture_outcomes.specs.declared.architecture.Architecture.{Architecture}
 use Rattle.elf_loader.specs.Image.{Initial}
 use Rattle.explorer.specs.Ranks.{outcome_cmp}
-use Rattle.explorer.specs.Words.{CanShow, CanShowEach}
+use Rattle.performed_words.specs.Words.{CanShow, CanShowEach}
 use Rattle.fence_audit.specs.Answers.{IsSearchOf}
 use Rattle.machine_types.specs.declared.config.Config.{Config}
 use Rattle.state_search.specs.declared.findings.Extent.TheVariants.{Complete}
-use Rattle.window_search.specs.declared.left_out.Reach.TheVariants.{LimitMet, OutOfMemory}
+use Rattle.window_model.specs.Complete.{TellsEachAllowed}
+use Rattle.window_search.specs.declared.left_out.Reach.TheVariants.{LimitMet, OutOfMemory, Whole}
 
 -- words that can be shown of an image can be shown of one of the same size
 pub shows_same : (image made : Initial) (addresses : List ℕ) → length made.bytes ≡ length image.bytes → CanShowEach image addresses → CanShowEach made addresses
@@ -24,9 +25,10 @@ shows_same image made addresses same all = All-weaker (CanShow image) (CanShow m
 module _ (image made : Initial) (same : made ≡ image) (config : Config) (addresses : List ℕ) (window limit : ℕ) where
   pub searched : (r : Result Architecture AllocError) → IfOk r (λ a. All (IsWitnessed made config addresses) a.outcomes.items)
       → IfOk r (λ a. a.machine ≡ Complete → TellsEachEnd made config addresses a.outcomes.items) → IfOk r (λ a. a.machine ≡ Complete → All (λ o. IsDecided o.way) a.outcomes.items)
+      → IfOk r (λ a. a.reach ≡ Whole → TellsEachAllowed made config addresses (ends_of a.outcomes.items))
       → IfOk r (λ a. a.reach ≢ LimitMet → a.reach ≢ OutOfMemory → a.states ≤ limit) → IfOk r (λ a. IsStrictlySortedBy (on end_of outcome_cmp) a.outcomes.items)
       → IfOk r (λ a. a.model ≡ config.model) → IfOk r (λ a. a.window ≡ min window 64) → IfOk r (IsSearchOf image config addresses window limit)
-  searched (Ok a) shown machine alone bounded order model width =
+  searched (Ok a) shown machine alone allowed bounded order model width =
       subst (λ (i : Initial). IsSearchOf i config addresses window limit a) same
-      (record { shown = shown; machine = machine; alone = alone; bounded = bounded; order = order; model = model; window_is = width })
-  searched (Err error) shown machine alone bounded order model width = tt
+      (record { shown = shown; machine = machine; alone = alone; allowed = allowed; bounded = bounded; order = order; model = model; window_is = width })
+  searched (Err error) shown machine alone allowed bounded order model width = tt

@@ -3,7 +3,7 @@ use Rattle.std.specs.Prelude.{◌≡◌, ◌≢◌, ◌≤◌, ℕ, All, Bool, L
 use Rattle.std.specs.List.{list_any}
 use Rattle.std.specs.List.Sorted.{IsStrictlySortedBy}
 use Rattle.std.specs.Ordering.{on}
-use Rattle.architecture_outcomes.specs.Outcomes.{IsDecided, IsWitnessed, TellsEachEnd, end_of, tells}
+use Rattle.architecture_outcomes.specs.Outcomes.{IsDecided, IsWitnessed, TellsEachEnd, end_of, ends_of, tells}
 use Rattle.architecture_outcomes.specs.declared.architecture.Architecture.{Architecture}
 use Rattle.architecture_outcomes.specs.declared.outcome.Outcome.{Outcome}
 use Rattle.elf_loader.specs.Image.{Initial}
@@ -13,17 +13,19 @@ use Rattle.fence_audit.specs.declared.answers.Answer.TheVariants.{Bounded, Fewer
 use Rattle.machine_types.specs.declared.config.Config.{Config}
 use Rattle.state_search.specs.declared.findings.Extent.{Extent}
 use Rattle.state_search.specs.declared.findings.Extent.TheVariants.{Complete}
+use Rattle.window_model.specs.Complete.{TellsEachAllowed}
 use Rattle.window_search.specs.declared.left_out.Reach.{Reach}
 use Rattle.window_search.specs.declared.left_out.Reach.TheVariants.{LimitMet, OutOfMemory, Whole}
 
 -- ---- a search
 
 -- what is said to show an outcome does; where the machine's own search is complete, each of its outcomes is told as one of the machine, and each other as the model's alone;
--- the search under the model finds no more states than the limit, unless it says that it met one or that memory ended; the outcomes stand in their order, each once
+-- where the search under the model left nothing out, each outcome that the model allows is told; it finds no more states than the limit, unless it says that it met one or that memory ended; the outcomes stand in their order, each once
 pub record IsSearchOf (image : Initial) (config : Config) (addresses : List ℕ) (window limit : ℕ) (found : Architecture) : Type 0 where
   pub shown : All (IsWitnessed image config addresses) found.outcomes.items
   pub machine : found.machine ≡ Complete → TellsEachEnd image config addresses found.outcomes.items
   pub alone : found.machine ≡ Complete → All (λ o. IsDecided o.way) found.outcomes.items
+  pub allowed : found.reach ≡ Whole → TellsEachAllowed image config addresses (ends_of found.outcomes.items)
   pub bounded : found.reach ≢ LimitMet → found.reach ≢ OutOfMemory → found.states ≤ limit
   pub order : IsStrictlySortedBy (on end_of outcome_cmp) found.outcomes.items
   pub model : found.model ≡ config.model

@@ -48,6 +48,7 @@ part_text Release = codes "    rl  "
 abbrev pub bound_text : Reach → (window : ℕ) → List ℕ
 bound_text reach.Whole window = codes ", this machine's states"
 bound_text reach.Unjudged window = codes ", runs of over 4096 operations"
+bound_text reach.Unclosed window = codes ", what a last pass over the states found"
 bound_text reach.WindowMet window = codes ", windows over " ++ decimal window
 bound_text reach.GuessMet window = codes ", values of loads or ways of fetching on"
 bound_text reach.CallMet window = codes ", calls by a loaded number"
@@ -170,15 +171,12 @@ last_text a =
 abbrev pub counted : ℕ → (what : List ℕ) → List ℕ
 counted number what = decimal number ++ what
 
-abbrev pub window_text : (outcomes window : ℕ) → List ℕ
-window_text outcomes window = counted outcomes (codes " outcomes of the program as it is, no window over ") ++ counted window (codes " (not proved complete)\n")
-
-abbrev pub count_text : (orderings programs outcomes window : ℕ) → List ℕ
-count_text orderings programs outcomes window =
-    codes "searched: " ++ (counted orderings (codes " orderings, ") ++ (counted programs (codes " programs, ") ++ window_text outcomes window))
+abbrev pub count_text : (orderings programs outcomes : ℕ) → List ℕ
+count_text orderings programs outcomes =
+    codes "searched: " ++ (counted orderings (codes " orderings, ") ++ (counted programs (codes " programs, ") ++ counted outcomes (codes " outcomes of the program as it is\n")))
 
 abbrev pub counts_text : Audit → List ℕ
-counts_text a = count_text (length a.orderings.items) (length a.searches.items + 1) (length a.known.outcomes.items) a.known.window
+counts_text a = count_text (length a.orderings.items) (length a.searches.items + 1) (length a.known.outcomes.items)
 
 abbrev pub whole_text : List WordName → List Named → Audit → List ℕ
 whole_text names symbols a =

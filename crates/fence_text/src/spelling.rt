@@ -90,19 +90,12 @@ fn spell_counts(into: &mut Vec<u8>, audit: &Audit) -> Result<(), AllocError>
     into.extend_from_slice(b"searched: ")?;
     spell_counted(into, audit.orderings.len(), b" orderings, ")?;
     spell_counted(into, audit.searches.len() + 1, b" programs, ")?;
-    spell_window(into, audit.known.outcomes.len(), audit.known.window)?;
-    Ok(())
-}
-
-fn spell_window(into: &mut Vec<u8>, outcomes: usize, window: u32) -> Result<(), AllocError>
-    ensures { OnOk result (into.new.items ≡ into.old.items ++ text.window_text outcomes window) }
-{
     spell_counted(
         into,
-        outcomes,
-        b" outcomes of the program as it is, no window over ",
+        audit.known.outcomes.len(),
+        b" outcomes of the program as it is\n",
     )?;
-    spell_counted(into, window as usize, b" (not proved complete)\n")
+    Ok(())
 }
 
 // ---- words of a line
@@ -140,6 +133,7 @@ fn spell_bound(into: &mut Vec<u8>, reach: Reach, window: u32) -> Result<(), Allo
     match reach {
         Reach::Whole => spell_text(into, b", this machine's states"),
         Reach::Unjudged => spell_text(into, b", runs of over 4096 operations"),
+        Reach::Unclosed => spell_text(into, b", what a last pass over the states found"),
         Reach::WindowMet => spell_width(into, window),
         Reach::GuessMet => spell_text(into, b", values of loads or ways of fetching on"),
         Reach::CallMet => spell_text(into, b", calls by a loaded number"),

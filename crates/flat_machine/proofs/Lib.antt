@@ -24,3 +24,4 @@ mod Remembering
 mod ByNumbers
 mod ByView
 mod WorkedOut
+pub mod Stopped

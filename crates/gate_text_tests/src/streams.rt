@@ -77,7 +77,7 @@ const LOADED: &str = "M s E 0 GrantAck 0x80000000
 E 6 deliver E 0 Delivered
 M t E 0 GrantAck 0x80000000
 E 7 step 0 Retired
-R 0 0x80000004 0x00062703 0x80000637 - ; lw a4, 0(a2)
+R 0 0x80000004 0x00062703 0x80000637 - ; lw a4, 0(a2): 0x80000000 = 0x80000637
 P 0 1
 ";
 
@@ -234,9 +234,9 @@ const BEFORE_A_FENCE: Case = Case {
 E 2 step 0 Retired
 R 0 0x80000000 0x80000637 - - ; lui a2, 0x80000
 E 3 step 0 Retired
-R 0 0x80000004 0x00c62823 - - ; sw a2, 16(a2)
+R 0 0x80000004 0x00c62823 - - ; sw a2, 16(a2): 0x80000010 = 0x80000000
 E 4 step 0 Retired
-R 0 0x80000008 0x00c62a23 - - ; sw a2, 20(a2)
+R 0 0x80000008 0x00c62a23 - - ; sw a2, 20(a2): 0x80000014 = 0x80000000
 H 0 run ; MustDrain 0x80000010 0x80000014 ; fence rw, rw
 ",
     ],
@@ -279,6 +279,96 @@ static STOPPED: Case = Case {
         "I 0x80000000 73001000000000000000000000000000
 E 2 step 0 Stopped 3
 H 0 stop 3 ; EBREAK ; ebreak
+",
+    ],
+    ..BEFORE_A_FENCE
+};
+
+/// Accesses of each kind: a byte and a half word that are stored and loaded again, an LR, an SC that succeeds, one that
+/// fails, and an AMO.
+const ACCESSES: [u32; 10] = [
+    0x8000_0637,
+    0xffe0_0693,
+    0x02d6_00a3,
+    0x02d6_1123,
+    0x0216_4703,
+    0x0226_1783,
+    0x1006_272f,
+    0x18d6_27af,
+    0x18d6_27af,
+    0x00d6_272f,
+];
+
+const ACCESSES_EVENTS: [Event; 14] = [
+    STEP,
+    STEP,
+    STEP,
+    STEP,
+    STEP,
+    STEP,
+    STEP,
+    Event::Deliver {
+        channel: Channel::A,
+        hart: 0,
+    },
+    Event::Deliver {
+        channel: Channel::D,
+        hart: 0,
+    },
+    Event::Deliver {
+        channel: Channel::E,
+        hart: 0,
+    },
+    STEP,
+    STEP,
+    STEP,
+    STEP,
+];
+
+static ACCESSING: Case = Case {
+    words: &ACCESSES,
+    events: &ACCESSES_EVENTS,
+    stream: &[
+        HEAD,
+        "I 0x80000000 370600809306e0ffa300d6022311d602
+I 0x80000010 03471602831726022f270610af27d618
+I 0x80000020 af27d6182f27d6000000000000000000
+E 2 step 0 Retired
+R 0 0x80000000 0x80000637 - - ; lui a2, 0x80000
+E 3 step 0 Retired
+R 0 0x80000004 0xffe00693 - - ; addi a3, zero, -2
+E 4 step 0 Retired
+R 0 0x80000008 0x02d600a3 - - ; sb a3, 33(a2): 0x80000021 = 0xfe
+E 5 step 0 Retired
+R 0 0x8000000c 0x02d61123 - - ; sh a3, 34(a2): 0x80000022 = 0xfffe
+E 6 step 0 Retired
+R 0 0x80000010 0x02164703 0x000000fe - ; lbu a4, 33(a2): 0x80000021 = 0xfe
+P 0 4
+E 7 step 0 Retired
+R 0 0x80000014 0x02261783 0x0000fffe - ; lh a5, 34(a2): 0x80000022 = 0xfffe
+P 0 5
+E 8 step 0 Missed 0x80000000
+M s A 0 AcquireBlock 0x80000000 NtoT
+E 9 deliver A 0 Delivered
+M t A 0 AcquireBlock 0x80000000 NtoT
+M s D 0 GrantData 0x80000000 toT 370600809306e0ffa300d6022311d602
+E 10 deliver D 0 Delivered
+M t D 0 GrantData 0x80000000 toT 370600809306e0ffa300d6022311d602
+M s E 0 GrantAck 0x80000000
+E 11 deliver E 0 Delivered
+M t E 0 GrantAck 0x80000000
+E 12 step 0 Retired
+R 0 0x80000018 0x1006272f 0x80000637 - ; lr.w a4, (a2): 0x80000000 = 0x80000637
+P 0 6
+E 13 step 0 Retired
+R 0 0x8000001c 0x18d627af - ok ; sc.w a5, a3, (a2): 0x80000000 = 0xfffffffe
+P 0 7
+E 14 step 0 Retired
+R 0 0x80000020 0x18d627af - fail ; sc.w a5, a3, (a2): 0x80000000 fails
+E 15 step 0 Retired
+R 0 0x80000024 0x00d6272f 0xfffffffe - ; amoadd.w a4, a3, (a2): 0x80000000 = 0xfffffffe -> 0xfffffffc
+P 0 9
+H 0 run ; Stopped 2
 ",
     ],
     ..BEFORE_A_FENCE
@@ -363,6 +453,11 @@ fn ends_before(rt: &(impl Abort + AllocGlobal), case: &Case, reason: &str) -> Re
 #[test]
 fn a_stream_has_each_line_below_its_event(rt: HostRuntime) -> Result<(), Fail> {
     is_told(&rt, &LOADING)
+}
+
+#[test]
+fn a_stream_tells_what_each_access_does(rt: HostRuntime) -> Result<(), Fail> {
+    is_told(&rt, &ACCESSING)
 }
 
 #[test]

@@ -1,7 +1,7 @@
 //! The ends to which a test's program comes.
 ghost use Rattle.std.specs.Prelude.{◌≡◌, ◌<◌, All, IfOk, IsTrue, map};
 ghost use Rattle.architecture_outcomes.specs.Outcomes.{IsWitnessed, TellsEachEnd, of_found};
-ghost use Rattle.explorer.specs.Words.{CanShowEach};
+ghost use Rattle.performed_words.specs.Words.{CanShowEach};
 
 use crate::program::Program;
 use crate::wanted::Wanted;

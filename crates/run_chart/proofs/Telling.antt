@@ -45,21 +45,21 @@ moves (Moves p moved) s new o a h = elim a [
 ]
 
 -- the row of an event that changed the machine, as it was told
-pub row_told : (only : Option ℕ) (columns : List ℕ) (line index : ℕ) (s new : State) (e : Event) (o : Outcome) (b : Before) (r : Report) (t : Told) → b ≡ before s e → r ≡ report_behind b.lengths new index e o → t ≡ row only columns b new line r
+pub row_told : (only : Option ℕ) (columns : List ℕ) (line index : ℕ) (s new : State) (e : Event) (o : Outcome) (b : Before) (r : Report) (t : Told) → b ≡ before s e → r ≡ report_behind b.lengths b.action new index e o → t ≡ row only columns b new line r
     → t ≡ row_between only columns line index s e o new
 row_told only columns line index s new e o b r t eb er et =
     et
     ∙ ap (λ (x : Report). row only columns b new line x) er
-    ∙ ap (λ (x : Before). row only columns x new line (report_behind x.lengths new index e o)) eb
+    ∙ ap (λ (x : Before). row only columns x new line (report_behind x.lengths x.action new index e o)) eb
 
 -- an event that changed the machine has this row, where it is shown
 pub one_told : (w : LineSize) (only : Option ℕ) (columns : List ℕ) (line index : ℕ) (s new : State) (e : Event) (o : Outcome) (b : Before) (r : Report) (t : Told) → Answers (verdict s e) s (Ok o) new → (new.views.changes ≡ s.views.changes → ⊥)
-    → b ≡ before s e → r ≡ report_behind b.lengths new index e o → t ≡ row only columns b new line r
+    → b ≡ before s e → r ≡ report_behind b.lengths b.action new index e o → t ≡ row only columns b new line r
     → rows_at w only columns line index s e ≡ shown (is_shown w only b.address r.log) t
 one_told w only columns line index s new e o b r t a h eb er et =
     ap (λ (v : Verdict). rows_by v w only columns line index s e) (moves (verdict s e) s new o a h)
     ∙ ap (λ (x : Told). shown (is_shown w only (before s e).address (report_since index s e o new).log) x) (sym (row_told only columns line index s new e o b r t eb er et))
-    ∙ ap (λ (x : Before). shown (is_shown w only x.address (report_behind x.lengths new index e o).log) t) (sym eb)
+    ∙ ap (λ (x : Before). shown (is_shown w only x.address (report_behind x.lengths x.action new index e o).log) t) (sym eb)
     ∙ ap (λ (x : Report). shown (is_shown w only b.address x.log) t) (sym er)
 
 pub rest_is : {A : Type 0} (xs : List A) (d : A) → 1 ≤ length xs → xs ≡ get_or xs 0 d ∷ take (length xs - 1) (drop 1 xs)

@@ -7,7 +7,7 @@ use Rattle.run_chart.specs.declared.rows.Noted.{Noted}
 use Rattle.run_chart.specs.declared.rows.Posted.{Posted}
 use Rattle.run_chart.specs.declared.rows.Row.{Row}
 use Rattle.event_stream.specs.Lines.{script_line_of}
-use Rattle.event_stream.specs.Reports.{Report}
+use Rattle.event_stream.specs.Reports.{Report, action_of}
 use Rattle.event_stream.specs.Telling.{lengths_of, report_behind}
 use Rattle.machine_types.specs.declared.event.Event.{Event}
 use Rattle.machine_types.specs.declared.outcome.Outcome.{Outcome}
@@ -52,7 +52,7 @@ abbrev pub reserved_in : State → ℕ → Option ℕ
 reserved_in s h = if nat_lt h (length s.views.nodes) then (node_at s h).reserved else None
 
 abbrev pub before : State → Event → Before
-before s e = record { lengths = lengths_of s (hart_of e); reserved = reserved_in s (hart_of e); address = address_at s e }
+before s e = record { lengths = lengths_of s (hart_of e); action = action_of s e; reserved = reserved_in s (hart_of e); address = address_at s e }
 
 -- what an event did to its hart's core
 abbrev pub notes_of : Before → State → Report → List Note
@@ -83,7 +83,7 @@ shown false t = []
 
 -- what an event that leads from one state to another has done
 abbrev pub report_since : ℕ → State → Event → Outcome → State → Report
-report_since index s e o new = report_behind (lengths_of s (hart_of e)) new index e o
+report_since index s e o new = report_behind (lengths_of s (hart_of e)) (action_of s e) new index e o
 
 abbrev pub row_between : Option ℕ → List ℕ → ℕ → ℕ → State → Event → Outcome → State → Told
 row_between only columns line index s e o new = row only columns (before s e) new line (report_since index s e o new)

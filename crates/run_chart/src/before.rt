@@ -4,14 +4,16 @@ ghost use Rattle.run_chart.specs.Rows as rows;
 
 use crate::accesses::address_at;
 use coherent_machine::{Machine, Views};
-use event_stream::{Lengths, hart_of};
+use event_stream::{Lengths, action_of, hart_of};
 use machine_types::Event;
+use rv32_exec::Action;
 
-/// How long the lists are, the word that the event's hart has reserved, and the address that the event is
-/// about.
+/// How long the lists are, what the instruction of a step is to do, the word that the event's hart has reserved,
+/// and the address that the event is about.
 #[derive(Clone, Copy)]
 pub(crate) struct Before {
     pub lengths: Lengths,
+    pub action: Option<Action>,
     pub reserved: Option<u32>,
     pub address: Option<u32>,
 }
@@ -33,6 +35,7 @@ pub(crate) fn stood_before(machine: &Machine, event: Event) -> Before
     let hart = hart_of(event);
     Before {
         lengths: Lengths::of(machine, hart),
+        action: action_of(machine, event),
         reserved: reserved_in(machine.views(), hart as usize),
         address: address_at(machine, event),
     }

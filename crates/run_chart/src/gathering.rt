@@ -77,7 +77,14 @@ fn tell(
     if machine.views().changes() == before.lengths.changes {
         return Ok(());
     }
-    let report = Report::behind(&before.lengths, machine, index, event, outcome);
+    let report = Report::behind(
+        &before.lengths,
+        before.action,
+        machine,
+        index,
+        event,
+        outcome,
+    );
     if is_shown(scope, before.address, report.log) {
         let row = row_of(alloc, scope, &before, machine, gathered.line, &report)?;
         gathered.add(row)

@@ -1,5 +1,5 @@
 //! Laws of circles, each the contract of a function that does nothing.
-ghost use Rattle.window_circles.specs.Laws.{CirclesNeverEnd, CirclesPlaceNothing};
+ghost use Rattle.window_circles.specs.Laws.{CirclesNeverEnd, CirclesNeverRun, CirclesPlaceNothing};
 
 /// A hart that executes one instruction after the other, none of which accesses memory, comes to nothing that it
 /// fetches and places.
@@ -10,4 +10,9 @@ pub fn circles_place_nothing()
 /// Nor does it ever end.
 pub fn circles_never_end()
     ensures { CirclesNeverEnd }
+{}
+
+/// No list of what it retires is a run to its end.
+pub fn circles_never_run()
+    ensures { CirclesNeverRun }
 {}

@@ -4,4 +4,4 @@
 
 mod laws;
 
-pub use laws::{circles_never_end, circles_place_nothing};
+pub use laws::{circles_never_end, circles_never_run, circles_place_nothing};

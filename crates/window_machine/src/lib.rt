@@ -3,17 +3,24 @@
 #![tactic(auto)]
 
 mod access;
+mod admitting;
 mod fetch;
 mod joining;
+mod lessening;
 mod memory;
 mod node;
 mod notes;
 mod placing;
 mod registers;
+mod reserved;
 mod rows;
+mod seeing;
 mod sets;
+mod showing;
+mod smaller;
 mod waiting;
 mod waits;
+mod window;
 
 pub use access::Access;
 pub use fetch::Fetch;

@@ -39,6 +39,8 @@ impl Findings for Searched<'_> {
 
     ghost harts = { λ o. (end_of o).results };
 
+    ghost has_failures = { λ s. false };
+
     ghost is_stuck = { λ s. false };
 
     ghost is_incomplete = { λ s. not (is_whole s.architecture.reach s.architecture.machine) };
@@ -63,7 +65,12 @@ impl Findings for Searched<'_> {
         &outcome.harts
     }
 
-    // It doesn't look for states from which no schedule ends.
+    // It tells outcomes alone, and doesn't look for states from which no schedule ends.
+
+    fn has_failures(&self) -> bool {
+        false
+    }
+
     fn is_stuck(&self) -> bool {
         false
     }

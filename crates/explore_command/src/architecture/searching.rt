@@ -7,7 +7,7 @@ ghost use Rattle.explore_command.specs.Telling.{AreRemarked};
 ghost use Rattle.command_files.specs.Sizes.{IsOutside};
 ghost use Rattle.explore_command.specs.Exploring.{ComesBeforeScripts, LeavesPart};
 ghost use Rattle.explore_command.specs.Keeping.{SparesOthers};
-ghost use Rattle.explorer.specs.Words.{CanShowEach};
+ghost use Rattle.performed_words.specs.Words.{CanShowEach};
 
 use crate::architecture::allowed::Searched;
 use crate::architecture::telling::remarks_on;
@@ -59,6 +59,7 @@ pub fn architecture_files<'a, F: Files, O: Write, E: Write, P: Progress>(
     let AskedWords {
         config,
         image,
+        symbols: _,
         allowed,
         targets,
     } = AskedWords::read(alloc, files, wanted, words)?;

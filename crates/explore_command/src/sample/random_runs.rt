@@ -34,6 +34,8 @@ impl Findings for Runs {
 
     ghost harts = { λ f. (outcome_of f).results };
 
+    ghost has_failures = { λ r. false };
+
     ghost is_stuck = { λ r. false };
 
     ghost is_incomplete = { λ r. true };
@@ -58,7 +60,11 @@ impl Findings for Runs {
         &outcome.harts
     }
 
-    // Runs don't show that no schedule ends, nor that there is no other end.
+    // Runs are counted by their ends alone, and don't show that no schedule ends, nor that there is no other end.
+
+    fn has_failures(&self) -> bool {
+        false
+    }
 
     fn is_stuck(&self) -> bool {
         false

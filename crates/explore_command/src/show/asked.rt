@@ -4,10 +4,10 @@ ghost use Rattle.std.specs.Prelude.{◌≡◌, Err, IfErr, IfOk, option_map};
 ghost use Rattle.command_files.specs.Sizes.{IsInside, IsOutside, config_named};
 ghost use Rattle.elf_loader.specs.Size.{IsMemoryKib};
 ghost use Rattle.explore_command.specs.Exploring.{IsAllowFile};
-ghost use Rattle.explore_command.specs.Asking.{HasProgram, IsAskingFault};
+ghost use Rattle.explore_command.specs.Asking.{HasProgram, HasProgramBy, IsAskingFault};
 ghost use Rattle.explore_command.specs.Keeping.{HasName};
 ghost use Rattle.explore_command.specs.Targets.{names_of};
-ghost use Rattle.explorer.specs.Words.{CanShowEach};
+ghost use Rattle.performed_words.specs.Words.{CanShowEach};
 
 use crate::asked::allow_file;
 use crate::keeping::check_folder;
@@ -15,6 +15,7 @@ use crate::show::targets::{Targets, targets_of};
 use command_files::{Fault, Files, named_config, out_of_limits};
 use command_settings::Explore;
 use elf_loader::Image;
+use elf_symbols::Symbols;
 use machine_types::Config;
 use script_commands::named_image_in;
 use std::alloc::Global;
@@ -24,6 +25,8 @@ use std::alloc::Global;
 pub(crate) struct AskedWords<'a> {
     pub config: Config,
     pub image: Image,
+    /// The names that the image's file has.
+    pub symbols: Symbols,
     /// The text that says which outcomes are allowed, where a file was named for it.
     pub allowed: Option<Vec<u8>>,
     pub targets: Targets<'a>,
@@ -41,6 +44,7 @@ impl<'a> AskedWords<'a> {
         ensures config { IfOk result (λ asked. (inside : IsInside wanted.entry.machine) × (asked.config ≡ config_named wanted.entry.machine inside)) }
         ensures memory { IfOk result (λ asked. IsMemoryKib wanted.entry.machine.memory) }
         ensures program { IfOk result (λ asked. HasProgram (F.held files.old) wanted.entry words.now asked.image asked.targets.addresses.items) }
+        ensures symbols { IfOk result (λ asked. HasProgramBy (F.held files.old) wanted.entry words.now asked.image asked.symbols asked.targets.addresses.items) }
         ensures inside { IfOk result (λ asked. CanShowEach asked.image asked.targets.addresses.items) }
         ensures names { IfOk result (λ asked. asked.targets.names.items ≡ names_of words.now) }
         ensures allowed { IfOk result (λ asked. IsAllowFile (F.held files.old) wanted.entry.allow (option_map (λ bytes. bytes.items) asked.allowed)) }
@@ -65,6 +69,7 @@ impl<'a> AskedWords<'a> {
         Ok(AskedWords {
             config,
             image: named.image,
+            symbols: named.names,
             allowed,
             targets,
         })

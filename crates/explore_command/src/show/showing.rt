@@ -8,7 +8,7 @@ ghost use Rattle.explore_command.specs.Exploring.{ComesBeforeScripts, IsFoundIn,
 ghost use Rattle.explore_command.specs.Judging.{IsToldBy};
 ghost use Rattle.explore_command.specs.Keeping.{IsScriptFile, SparesOthers};
 ghost use Rattle.explore_command.specs.Showing.{IsElsewhere, IsFirstOf, IsShowFault, AreWordsShown, WordRefusals, WordsHave};
-ghost use Rattle.explorer.specs.Words.{CanShowEach};
+ghost use Rattle.performed_words.specs.Words.{CanShowEach};
 ghost use Rattle.text_fields.specs.Writing.{Begins};
 
 use crate::exploring::Telling;
@@ -59,6 +59,7 @@ pub fn show_files<'a, F: Files, O: Write, E: Write, P: Progress>(
     let AskedWords {
         config,
         image,
+        symbols,
         allowed,
         targets,
     } = AskedWords::read(alloc, files, asked, &wanted.words)?;
@@ -68,6 +69,7 @@ pub fn show_files<'a, F: Files, O: Write, E: Write, P: Progress>(
     };
     let found = Shown {
         names: targets.names,
+        symbols,
         exploration,
     };
     print(alloc, &found, out)?;

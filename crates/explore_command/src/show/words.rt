@@ -1,6 +1,7 @@
 //! An exploration that shows words of memory, as it is told and judged.
 
 ghost use Rattle.std.specs.Prelude.{◌≡◌, ◌≢◌, is_some, length, not};
+ghost use Rattle.explore_command.specs.Exploring.{tells_failures};
 ghost use Rattle.explore_command.specs.Judging.{is_complete};
 ghost use Rattle.explore_command.specs.Keeping.{AreKept, IsScriptOf};
 ghost use Rattle.exploration_text.specs.Words.{end_text, exploration_text};
@@ -11,29 +12,33 @@ ghost use Rattle.flat_model.specs.Shown.{told};
 use crate::findings::Findings;
 use crate::keeping::{Folder, Keepable};
 use command_files::{Fault, Files};
+use elf_symbols::Symbols;
 use exploration_text::{WordName, end_text, text_of};
 use explorer::{Exploration, Found};
 use flat_model::HartResult;
 use state_search::Extent;
 use std::alloc::{AllocError, Global};
 
-/// What was found, and what lines call the words.
+/// What was found, what lines call the words, and the names that the image's file has.
 #[derive(Drop)]
 pub(crate) struct Shown<'a> {
     pub(crate) names: Vec<WordName<'a>>,
+    pub(crate) symbols: Symbols,
     pub(crate) exploration: Exploration,
 }
 
 impl Findings for Shown<'_> {
     type Outcome = Found;
 
-    ghost text = { λ s. exploration_text s.names.items s.exploration };
+    ghost text = { λ s. exploration_text s.names.items s.symbols s.exploration };
 
     ghost outcomes = { λ s. s.exploration.outcomes.items };
 
     ghost line = { λ s f. end_text s.names.items (outcome_of f) };
 
     ghost harts = { λ f. (outcome_of f).results };
+
+    ghost has_failures = { λ s. tells_failures s.exploration };
 
     ghost is_stuck = { λ s. is_some s.exploration.stuck };
 
@@ -42,7 +47,7 @@ impl Findings for Shown<'_> {
     ghost IsWhole = { λ s. s.exploration.extent ≢ extent.OutOfMemory };
 
     fn text(&self, alloc: Global) -> Result<Vec<u8>, AllocError> {
-        text_of(alloc, &self.names, &self.exploration)
+        text_of(alloc, &self.names, &self.symbols, &self.exploration)
     }
 
     fn outcomes(&self) -> &[Found] {
@@ -57,6 +62,10 @@ impl Findings for Shown<'_> {
         ensures { told result.now ≡ (outcome_of outcome.now).results }
     {
         &outcome.harts
+    }
+
+    fn has_failures(&self) -> bool {
+        !self.exploration.failures.is_empty()
     }
 
     fn is_stuck(&self) -> bool {
@@ -77,7 +86,7 @@ impl Keepable for Shown<'_> {
 
     ghost AreKept = { λ s left config kib folder. AreKept left config kib folder s.exploration };
 
-    ghost IsFileOf = { λ s. IsScriptOf (length s.exploration.outcomes.items) s.exploration.stuck };
+    ghost IsFileOf = { λ s. IsScriptOf (length s.exploration.outcomes.items) (length s.exploration.failures.items) s.exploration.stuck };
 
     fn keep_in<'a, F: Files>(&self, folder: Folder<'a>, files: &mut F) -> Result<(), Fault<'a>> {
         folder.keep(files, &self.exploration)

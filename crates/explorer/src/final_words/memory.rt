@@ -8,10 +8,10 @@ ghost use Rattle.flat_model.specs.Shown.{HoldsPerformed};
 ghost use Rattle.memory_model.specs.Operations.{stores_to, written_at};
 ghost use Rattle.memory_model.specs.Order.{last_write};
 
-use crate::final_words::reading::byte_of;
 use elf_loader::{BASE, Image};
 use flat_machine::Patch;
 use memory_model::Operation;
+use performed_words::byte_of;
 use std::alloc::{AllocError, Global};
 use trace_operations::Index;
 use trace_operations::accesses::writes;

@@ -1,10 +1,12 @@
 use Rattle.std.proofs.Common.{◌≡◌, ◌++◌, List, rules, subst}
 use Rattle.architecture_outcomes.specs.declared.outcome.Outcome.{Outcome}
-use Rattle.architecture_outcomes.specs.Outcomes.{TellOnce}
+use Rattle.architecture_outcomes.specs.Outcomes.{TellEach, TellOnce}
+use Rattle.window_search.specs.Told.{endings_of}
+use Rattle.architecture_outcomes.proofs.Each.{all_allowed}
 use Rattle.architecture_outcomes.proofs.Once.{rises}
 use Rattle.architecture_outcomes.proofs.Together.{all_decided, all_shown, each_told, end_told}
 use Rattle.architecture_outcomes.proofs.Visited.{states_more}
-use Rattle.architecture_outcomes.proofs.Aligned.{aligned}
+use Rattle.performed_words.proofs.Aligned.{aligned}
 use Rattle.architecture_outcomes.proofs.joining.explore_architecture.Goals as goal
 
 pub beyond-requires-clause-aligned : goal.beyond-requires-clause-aligned
@@ -50,3 +52,12 @@ returns-clause-visited g c =
           joined c.sort_unstable.ensures.permutation c.in_ok-found.ensures.machine)
           visited.1,
     )
+
+pub returns-clause-allowed : goal.returns-clause-allowed
+returns-clause-allowed g c whole =
+    let found = c.in_ok-found.field-0.outcomes.items in
+    let joined : c.append.new.self.items ≡ c.in_ok-outcomes.outcomes.items ++ found = search rules in
+    all_allowed c.args.image.now c.args.config c.args.addresses.now c.search_model-witnesses.result.witnesses.items found c.in_ok-outcomes.outcomes.items c.append.new.self.items c.sort_unstable.new.self.items
+    joined c.sort_unstable.ensures.permutation
+    (subst (λ (fs : List Outcome). TellEach (endings_of c.args.addresses.now c.search_model-witnesses.result.witnesses.items) fs c.in_ok-outcomes.outcomes.items) c.deref.ensures.value c.in_ok-outcomes.ensures.all)
+    (c.search_model-witnesses.ensures.allowed whole)

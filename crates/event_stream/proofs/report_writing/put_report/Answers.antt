@@ -19,14 +19,14 @@ returns-in_err-put_entries-clause-lines g c =
     let g0 = page_starts (W c.args.out.now) c.args.page.now (report_lines c.args.names.now (report_of c.args.report.now)) in
     let g1 = page_spelled _ _ _ _ _ _ _ (page_more _ _ _ _ _ [] _ _ g0 c.in_ok-make_room.ensures.sent) c.spell_event_line.ensures in
     page_stops _ _ _ _ _ _ c.from_residual-in_err-put_entries.ensures.0
-    (page_fails _ _ _ _ _ _ _ g1 (subst (λ (h : ℕ). Begins (W c.make_room.new.out) (W c.put_entries.new.out) (c.spell_event_line.new.page ++ flat_map (retired_line c.args.names.now h) c.args.report.now.entries.now)) c.hart_of-hart.ensures c.in_err-put_entries.ensures.lines))
+    (page_fails _ _ _ _ _ _ _ g1 (subst (λ (h : ℕ). Begins (W c.make_room.new.out) (W c.put_entries.new.out) (c.spell_event_line.new.page ++ flat_map (retired_line c.args.names.now h c.args.report.now.action) c.args.report.now.entries.now)) c.hart_of-hart.ensures c.in_err-put_entries.ensures.lines))
 
 pub returns-in_err-put_performed-clause-lines : goal.returns-in_err-put_performed-clause-lines
 returns-in_err-put_performed-clause-lines g c =
     let W = g.W.Write.contents in
     let g0 = page_starts (W c.args.out.now) c.args.page.now (report_lines c.args.names.now (report_of c.args.report.now)) in
     let g1 = page_spelled _ _ _ _ _ _ _ (page_more _ _ _ _ _ [] _ _ g0 c.in_ok-make_room.ensures.sent) c.spell_event_line.ensures in
-    let g2 = page_more _ _ _ _ _ _ _ _ g1 (subst (λ (h : ℕ). Paged (W c.make_room.new.out) (W c.put_entries.new.out) c.spell_event_line.new.page c.put_entries.new.page (flat_map (retired_line c.args.names.now h) c.args.report.now.entries.now)) c.hart_of-hart.ensures c.in_ok-put_entries.ensures.lines) in
+    let g2 = page_more _ _ _ _ _ _ _ _ g1 (subst (λ (h : ℕ). Paged (W c.make_room.new.out) (W c.put_entries.new.out) c.spell_event_line.new.page c.put_entries.new.page (flat_map (retired_line c.args.names.now h c.args.report.now.action) c.args.report.now.entries.now)) c.hart_of-hart.ensures c.in_ok-put_entries.ensures.lines) in
     page_stops _ _ _ _ _ _ c.from_residual-in_err-put_performed.ensures.0 (page_fails _ _ _ _ _ _ _ g2 c.in_err-put_performed.ensures)
 
 pub returns-in_err-put_log-clause-lines : goal.returns-in_err-put_log-clause-lines
@@ -34,7 +34,7 @@ returns-in_err-put_log-clause-lines g c =
     let W = g.W.Write.contents in
     let g0 = page_starts (W c.args.out.now) c.args.page.now (report_lines c.args.names.now (report_of c.args.report.now)) in
     let g1 = page_spelled _ _ _ _ _ _ _ (page_more _ _ _ _ _ [] _ _ g0 c.in_ok-make_room.ensures.sent) c.spell_event_line.ensures in
-    let g2 = page_more _ _ _ _ _ _ _ _ g1 (subst (λ (h : ℕ). Paged (W c.make_room.new.out) (W c.put_entries.new.out) c.spell_event_line.new.page c.put_entries.new.page (flat_map (retired_line c.args.names.now h) c.args.report.now.entries.now)) c.hart_of-hart.ensures c.in_ok-put_entries.ensures.lines) in
+    let g2 = page_more _ _ _ _ _ _ _ _ g1 (subst (λ (h : ℕ). Paged (W c.make_room.new.out) (W c.put_entries.new.out) c.spell_event_line.new.page c.put_entries.new.page (flat_map (retired_line c.args.names.now h c.args.report.now.action) c.args.report.now.entries.now)) c.hart_of-hart.ensures c.in_ok-put_entries.ensures.lines) in
     let g3 = page_more _ _ _ _ _ _ _ _ g2 c.in_ok-put_performed.ensures in
     page_stops _ _ _ _ _ _ c.from_residual-in_err-put_log.ensures.0 (page_fails _ _ _ _ _ _ _ g3 c.in_err-put_log.ensures)
 
@@ -43,7 +43,7 @@ returns-clause-lines g c =
     let W = g.W.Write.contents in
     let g0 = page_starts (W c.args.out.now) c.args.page.now (report_lines c.args.names.now (report_of c.args.report.now)) in
     let g1 = page_spelled _ _ _ _ _ _ _ (page_more _ _ _ _ _ [] _ _ g0 c.in_ok-make_room.ensures.sent) c.spell_event_line.ensures in
-    let g2 = page_more _ _ _ _ _ _ _ _ g1 (subst (λ (h : ℕ). Paged (W c.make_room.new.out) (W c.put_entries.new.out) c.spell_event_line.new.page c.put_entries.new.page (flat_map (retired_line c.args.names.now h) c.args.report.now.entries.now)) c.hart_of-hart.ensures c.in_ok-put_entries.ensures.lines) in
+    let g2 = page_more _ _ _ _ _ _ _ _ g1 (subst (λ (h : ℕ). Paged (W c.make_room.new.out) (W c.put_entries.new.out) c.spell_event_line.new.page c.put_entries.new.page (flat_map (retired_line c.args.names.now h c.args.report.now.action) c.args.report.now.entries.now)) c.hart_of-hart.ensures c.in_ok-put_entries.ensures.lines) in
     let g3 = page_more _ _ _ _ _ _ _ _ g2 c.in_ok-put_performed.ensures in
     let g4 = page_more _ _ _ _ _ _ _ _ g3 c.in_ok-put_log.ensures in
     page_last _ _ _ _ _ _ _ _ _ g4

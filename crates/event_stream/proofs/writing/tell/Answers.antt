@@ -38,7 +38,7 @@ returns-in-Err-put_report-clause-told g c =
     c.in-Ok.ensures.answers
     (ends_is _ _ _ _ _ c.loop-rest.machine c.apply.new.self c.ends_at.ensures c.if-ends_at.false (ap (λ (b : Lengths). b.changes) c.of-before.ensures) (c.changes.ensures ∙ ap (λ (s : State). s.views.changes) c.views.ensures))
     (subst (λ (x : Report). Begins (g.W.Write.contents c.loop-rest.out) (g.W.Write.contents c.put_report.new.out) (c.loop-rest.page ++ report_lines c.args.names.now x))
-    (behind _ _ _ c.loop-rest.machine c.apply.new.self _ _ _ c.of-before.ensures c.hart_of.ensures c.in-Ok.ensures.ok c.behind-report.ensures) c.in-Err-put_report.ensures.lines)
+    (behind _ _ _ _ c.loop-rest.machine c.apply.new.self _ _ _ c.of-before.ensures c.hart_of.ensures c.action_of-action.ensures c.in-Ok.ensures.ok c.behind-report.ensures) c.in-Err-put_report.ensures.lines)
 
 pub loop-rest-preserved : goal.loop-rest-preserved
 loop-rest-preserved g c = record {
@@ -48,7 +48,7 @@ loop-rest-preserved g c = record {
       c.in-Ok.ensures.ok
       (ends_is _ _ _ _ _ c.loop-rest.machine c.apply.new.self c.ends_at.ensures c.if-ends_at.false (ap (λ (b : Lengths). b.changes) c.of-before.ensures) (c.changes.ensures ∙ ap (λ (s : State). s.views.changes) c.views.ensures))
       (subst (λ (x : Report). Paged (g.W.Write.contents c.loop-rest.out) (g.W.Write.contents c.put_report.new.out) c.loop-rest.page c.put_report.new.page (report_lines c.args.names.now x))
-      (behind _ _ _ c.loop-rest.machine c.apply.new.self _ _ _ c.of-before.ensures c.hart_of.ensures c.in-Ok.ensures.ok c.behind-report.ensures) c.in_default-put_report.ensures.lines);
+      (behind _ _ _ _ c.loop-rest.machine c.apply.new.self _ _ _ c.of-before.ensures c.hart_of.ensures c.action_of-action.ensures c.in-Ok.ensures.ok c.behind-report.ensures) c.in_default-put_report.ensures.lines);
   place = rest_place c.loop-rest.rest.now _ _ c.in-len1-up.len_at_least c.loop-rest.invariant.place;
   reached = c.apply.ensures.reached;
   kept = c.put_report.ensures.kept;

@@ -7,8 +7,8 @@ use Rattle.exploration_text.proofs.spelling.spell_extent.Goals as goal
 pub returns-in_ok-extend_from_slice-in-LimitMet-2 : goal.returns-in_ok-extend_from_slice-in-LimitMet-2
 returns-in_ok-extend_from_slice-in-LimitMet-2 c =
     joined _ _ _ _ _ _ _ c.in_ok-extend_from_slice-in-LimitMet.ensures.items c.in_ok-spell_number-in-LimitMet.ensures c.in_ok-extend_from_slice-in-LimitMet-2.ensures.items
-    ∙ ap (λ (e : Extent). c.args.into.now.items ++ last_line e c.args.outcomes c.args.states) (sym c.in-LimitMet.is)
+    ∙ ap (λ (e : Extent). c.args.into.now.items ++ last_line e c.args.outcomes c.args.failures c.args.states) (sym c.in-LimitMet.is)
 
 pub returns-in_ok-extend_from_slice-in-OutOfMemory : goal.returns-in_ok-extend_from_slice-in-OutOfMemory
 returns-in_ok-extend_from_slice-in-OutOfMemory c =
-    c.in_ok-extend_from_slice-in-OutOfMemory.ensures.items ∙ ap (λ (e : Extent). c.args.into.now.items ++ last_line e c.args.outcomes c.args.states) (sym c.in-OutOfMemory.is)
+    c.in_ok-extend_from_slice-in-OutOfMemory.ensures.items ∙ ap (λ (e : Extent). c.args.into.now.items ++ last_line e c.args.outcomes c.args.failures c.args.states) (sym c.in-OutOfMemory.is)

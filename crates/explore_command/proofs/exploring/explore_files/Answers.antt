@@ -22,7 +22,7 @@ pub returns-in_err-print-clause-unfinished : goal.returns-in_err-print-clause-un
 returns-in_err-print-clause-unfinished g c =
     handed_up _ c.from_residual-in_err-print.result _ c.from_residual-in_err-print.ensures.1
     (output_left _ _ _ _ c.in_err-print.ensures.told
-    (has (g.F.Files.held c.args.files.now) c.args.wanted c.in_ok-asked.asked.config c.in_ok-asked.asked.image c.in-Ok.found c.in_ok-asked.ensures.config.0 c.in_ok-asked.ensures.config.1 c.in_ok-asked.ensures.image
+    (has (g.F.Files.held c.args.files.now) c.args.wanted c.in_ok-asked.asked.config c.in_ok-asked.asked.image c.in_ok-asked.asked.symbols c.in-Ok.exploration c.in_ok-asked.ensures.config.0 c.in_ok-asked.ensures.config.1 c.in_ok-asked.ensures.symbols
     c.in-Ok.ensures
     _ c.in_err-print.ensures.begun))
 
@@ -34,18 +34,18 @@ returns-in_err-keep-clause-told g c = handed_up _ c.from_residual-in_err-keep.re
 
 pub returns-in_err-keep-clause-unfinished : goal.returns-in_err-keep-clause-unfinished
 returns-in_err-keep-clause-unfinished g c =
-    let has_text = has (g.F.Files.held c.args.files.now) c.args.wanted c.in_ok-asked.asked.config c.in_ok-asked.asked.image c.in-Ok.found c.in_ok-asked.ensures.config.0 c.in_ok-asked.ensures.config.1 c.in_ok-asked.ensures.image c.in-Ok.ensures in
+    let has_text = has (g.F.Files.held c.args.files.now) c.args.wanted c.in_ok-asked.asked.config c.in_ok-asked.asked.image c.in_ok-asked.asked.symbols c.in-Ok.exploration c.in_ok-asked.ensures.config.0 c.in_ok-asked.ensures.config.1 c.in_ok-asked.ensures.symbols c.in-Ok.ensures in
     handed_up _ c.from_residual-in_err-keep.result _ c.from_residual-in_err-keep.ensures.1
     (folder_left c.args.wanted _ _ _ _ c.in_err-keep.ensures.told (has_text _ (all_of _ _ _ c.in_ok-print.ensures.printed)) (has_text _ c.in_ok-print.ensures.printed))
 
 pub returns-in_err-keep-clause-spared : goal.returns-in_err-keep-clause-spared
-returns-in_err-keep-clause-spared g c = spared_after _ _ _ _ c.in_ok-asked.ensures.stays (spares_wider _ _ _ _ (script_file _ _ c.args.wanted.scripts) c.keep.ensures.spared)
+returns-in_err-keep-clause-spared g c = spared_after _ _ _ _ c.in_ok-asked.ensures.stays (spares_wider _ _ _ _ (script_file _ _ _ c.args.wanted.scripts) c.keep.ensures.spared)
 
 pub returns-clause-explored : goal.returns-clause-explored
 returns-clause-explored g c =
     ok_more _ _ c.judge-judgement.result
     (λ judgement so.
-    whole (g.F.Files.held c.args.files.now) c.args.wanted c.in_ok-asked.asked.config c.in_ok-asked.asked.image c.in-Ok.found c.in_ok-asked.ensures.config.0 c.in_ok-asked.ensures.config.1 c.in_ok-asked.ensures.image
+    whole (g.F.Files.held c.args.files.now) c.args.wanted c.in_ok-asked.asked.config c.in_ok-asked.asked.image c.in_ok-asked.asked.symbols c.in-Ok.exploration c.in_ok-asked.ensures.config.0 c.in_ok-asked.ensures.config.1 c.in_ok-asked.ensures.symbols
     c.in-Ok.ensures
     _ _ (g.F.Files.held c.keep.new.files) judgement c.in_ok-print.ensures.printed c.in_ok-asked.ensures.named c.in_ok-keep.ensures.kept (spared_after _ _ _ _ c.in_ok-asked.ensures.stays c.keep.ensures.spared) (judged _ c.args.wanted.allow _ _ _ judgement c.in_ok-asked.ensures.allowed so.0) so.1)
     (ok_both _ _ c.judge-judgement.result c.judge-judgement.ensures.judged c.judge-judgement.ensures.whole)
@@ -58,13 +58,13 @@ returns-clause-unfinished g c =
     err_more _ _ c.judge-judgement.result
     (λ fault is.
     memory_left fault _ _ _ is
-    (has (g.F.Files.held c.args.files.now) c.args.wanted c.in_ok-asked.asked.config c.in_ok-asked.asked.image c.in-Ok.found c.in_ok-asked.ensures.config.0 c.in_ok-asked.ensures.config.1 c.in_ok-asked.ensures.image
+    (has (g.F.Files.held c.args.files.now) c.args.wanted c.in_ok-asked.asked.config c.in_ok-asked.asked.image c.in_ok-asked.asked.symbols c.in-Ok.exploration c.in_ok-asked.ensures.config.0 c.in_ok-asked.ensures.config.1 c.in_ok-asked.ensures.symbols
     c.in-Ok.ensures
     _ (all_of _ _ _ c.in_ok-print.ensures.printed)))
     c.judge-judgement.ensures.told
 
 pub returns-clause-spared : goal.returns-clause-spared
-returns-clause-spared g c = spared_after _ _ _ _ c.in_ok-asked.ensures.stays (spares_wider _ _ _ _ (script_file _ _ c.args.wanted.scripts) c.keep.ensures.spared)
+returns-clause-spared g c = spared_after _ _ _ _ c.in_ok-asked.ensures.stays (spares_wider _ _ _ _ (script_file _ _ _ c.args.wanted.scripts) c.keep.ensures.spared)
 
 -- files are as before where the fault comes before the scripts
 pub returns-in_err-asked-clause-untouched : goal.returns-in_err-asked-clause-untouched
@@ -85,7 +85,7 @@ pub returns-clause-noted : goal.returns-clause-noted
 returns-clause-noted g c =
     ok_more _ _ c.judge-judgement.result
     (λ judgement so.
-    refusals (g.F.Files.held c.args.files.now) c.args.wanted c.in_ok-asked.asked.config c.in_ok-asked.asked.image c.in-Ok.found c.in_ok-asked.ensures.config.0 c.in_ok-asked.ensures.config.1 c.in_ok-asked.ensures.image
+    refusals (g.F.Files.held c.args.files.now) c.args.wanted c.in_ok-asked.asked.config c.in_ok-asked.asked.image c.in_ok-asked.asked.symbols c.in-Ok.exploration c.in_ok-asked.ensures.config.0 c.in_ok-asked.ensures.config.1 c.in_ok-asked.ensures.symbols
     c.in-Ok.ensures
     _ _ _ c.in_ok-print.ensures.printed (refusals_in _ c.args.wanted.allow _ _ _ _ c.in_ok-asked.ensures.allowed so))
     c.judge-judgement.ensures.noted
@@ -107,7 +107,7 @@ returns-clause-silent g c = err_more _ _ c.judge-judgement.result (λ fault is e
 pub returns-in_err-keep-clause-judged_first : goal.returns-in_err-keep-clause-judged_first
 returns-in_err-keep-clause-judged_first g c =
     on_err_of c.from_residual-in_err-keep.result (inr
-    (refusals (g.F.Files.held c.args.files.now) c.args.wanted c.in_ok-asked.asked.config c.in_ok-asked.asked.image c.in-Ok.found c.in_ok-asked.ensures.config.0 c.in_ok-asked.ensures.config.1 c.in_ok-asked.ensures.image
+    (refusals (g.F.Files.held c.args.files.now) c.args.wanted c.in_ok-asked.asked.config c.in_ok-asked.asked.image c.in_ok-asked.asked.symbols c.in-Ok.exploration c.in_ok-asked.ensures.config.0 c.in_ok-asked.ensures.config.1 c.in_ok-asked.ensures.symbols
     c.in-Ok.ensures
     _ _ _ c.in_ok-print.ensures.printed
     (refusals_in _ c.args.wanted.allow _ _ _ _ c.in_ok-asked.ensures.allowed (begun_by _ _ _ c.judge-judgement.result c.judge-judgement.ensures.noted c.judge-judgement.ensures.silent))))

@@ -13,4 +13,4 @@ returns g c =
     let question = c.args.question in
     let is = c.explore_architecture.ensures in
     searched (patched question.image.now c.args.patches.now) c.in_ok-image.image c.in_ok-image.ensures.made question.config question.addresses.now question.window question.limit
-    c.explore_architecture.result is.shown is.machine is.alone is.bounded is.order is.model is.window
+    c.explore_architecture.result is.shown is.machine is.alone is.allowed is.bounded is.order is.model is.window

@@ -1,5 +1,5 @@
 use Rattle.std.proofs.lemmas.List.Elements.{All-nil}
-use Rattle.explorer.specs.Words.{CanShow}
+use Rattle.performed_words.specs.Words.{CanShow}
 use Rattle.gate_audit_tests.proofs.audits.audit_in.Goals as goal
 
 pub audit_program-requires : goal.audit_program-requires

@@ -7,7 +7,7 @@ use Rattle.explore_command.proofs.Kept.{script_file, spares_wider}
 use Rattle.explore_command.proofs.Refused.{begun_by, on_err_more, on_err_of}
 use Rattle.explore_command.proofs.Asking.{asking_left, asking_told}
 use Rattle.explore_command.proofs.Shown.{has, refused, show_told, shown}
-use Rattle.explore_command.specs.Asking.{HasProgram, IsAskingFault}
+use Rattle.explore_command.specs.Asking.{HasProgramBy, IsAskingFault}
 use Rattle.explore_command.proofs.show.showing.show_files.Goals as goal
 
 pub returns-in_err-config-clause-told : goal.returns-in_err-config-clause-told
@@ -28,10 +28,10 @@ returns-in_err-print-clause-unfinished g c =
     let show = c.args.wanted.now in
     let held = g.F.Files.held c.args.files.now in
     let asked = c.in_ok-config.field-0 in
-    let program = subst (λ (a : List ℕ). HasProgram held show.explore c.deref.result.now asked.image a) (sym c.deref-2.ensures.value) c.in_ok-config.ensures.program in
+    let program = subst (λ (a : List ℕ). HasProgramBy held show.explore c.deref.result.now asked.image asked.symbols a) (sym c.deref-2.ensures.value) c.in_ok-config.ensures.symbols in
     handed_up _ c.from_residual-in_err-print.result _ c.from_residual-in_err-print.ensures.1
     (output_left _ _ _ _ c.in_err-print.ensures.told
-    (has held show asked.config asked.image c.deref-2.result.now _ _ c.in-Ok.exploration c.in_ok-config.ensures.config.0 c.in_ok-config.ensures.config.1 c.deref.ensures.value program c.in_ok-config.ensures.names
+    (has held show asked.config asked.image asked.symbols c.deref-2.result.now _ _ c.in-Ok.exploration c.in_ok-config.ensures.config.0 c.in_ok-config.ensures.config.1 c.deref.ensures.value program c.in_ok-config.ensures.names
     c.in-Ok.ensures _ c.in_err-print.ensures.begun))
 
 pub returns-in_err-keep-clause-told : goal.returns-in_err-keep-clause-told
@@ -45,24 +45,24 @@ returns-in_err-keep-clause-unfinished g c =
     let show = c.args.wanted.now in
     let held = g.F.Files.held c.args.files.now in
     let asked = c.in_ok-config.field-0 in
-    let program = subst (λ (a : List ℕ). HasProgram held show.explore c.deref.result.now asked.image a) (sym c.deref-2.ensures.value) c.in_ok-config.ensures.program in
-    let told = has held show asked.config asked.image c.deref-2.result.now _ _ c.in-Ok.exploration c.in_ok-config.ensures.config.0 c.in_ok-config.ensures.config.1 c.deref.ensures.value program c.in_ok-config.ensures.names
+    let program = subst (λ (a : List ℕ). HasProgramBy held show.explore c.deref.result.now asked.image asked.symbols a) (sym c.deref-2.ensures.value) c.in_ok-config.ensures.symbols in
+    let told = has held show asked.config asked.image asked.symbols c.deref-2.result.now _ _ c.in-Ok.exploration c.in_ok-config.ensures.config.0 c.in_ok-config.ensures.config.1 c.deref.ensures.value program c.in_ok-config.ensures.names
     c.in-Ok.ensures in
     handed_up _ c.from_residual-in_err-keep.result _ c.from_residual-in_err-keep.ensures.1
     (folder_left show.explore _ _ _ _ c.in_err-keep.ensures.told (told _ (all_of _ _ _ c.in_ok-print.ensures.printed)) (told _ c.in_ok-print.ensures.printed))
 
 pub returns-in_err-keep-clause-spared : goal.returns-in_err-keep-clause-spared
-returns-in_err-keep-clause-spared g c = spared_after _ _ _ _ c.in_ok-config.ensures.stays (spares_wider _ _ _ _ (script_file _ _ c.args.wanted.now.explore.scripts) c.keep.ensures.spared)
+returns-in_err-keep-clause-spared g c = spared_after _ _ _ _ c.in_ok-config.ensures.stays (spares_wider _ _ _ _ (script_file _ _ _ c.args.wanted.now.explore.scripts) c.keep.ensures.spared)
 
 pub returns-clause-shown : goal.returns-clause-shown
 returns-clause-shown g c =
     let show = c.args.wanted.now in
     let held = g.F.Files.held c.args.files.now in
     let asked = c.in_ok-config.field-0 in
-    let program = subst (λ (a : List ℕ). HasProgram held show.explore c.deref.result.now asked.image a) (sym c.deref-2.ensures.value) c.in_ok-config.ensures.program in
+    let program = subst (λ (a : List ℕ). HasProgramBy held show.explore c.deref.result.now asked.image asked.symbols a) (sym c.deref-2.ensures.value) c.in_ok-config.ensures.symbols in
     ok_more _ _ c.judge-judgement.result
     (λ judgement so.
-    shown held show asked.config asked.image c.deref-2.result.now _ _ c.in-Ok.exploration c.in_ok-config.ensures.config.0 c.in_ok-config.ensures.config.1 c.deref.ensures.value program c.in_ok-config.ensures.names
+    shown held show asked.config asked.image asked.symbols c.deref-2.result.now _ _ c.in-Ok.exploration c.in_ok-config.ensures.config.0 c.in_ok-config.ensures.config.1 c.deref.ensures.value program c.in_ok-config.ensures.names
     c.in-Ok.ensures
     _ _ (g.F.Files.held c.keep.new.files) judgement _ c.in_ok-print.ensures.printed c.in_ok-config.ensures.named c.in_ok-keep.ensures.kept (spared_after _ _ _ _ c.in_ok-config.ensures.stays c.keep.ensures.spared) c.in_ok-config.ensures.allowed so.0 so.1)
     (ok_both _ _ c.judge-judgement.result c.judge-judgement.ensures.judged c.judge-judgement.ensures.whole)
@@ -72,16 +72,16 @@ returns-clause-unfinished g c =
     let show = c.args.wanted.now in
     let held = g.F.Files.held c.args.files.now in
     let asked = c.in_ok-config.field-0 in
-    let program = subst (λ (a : List ℕ). HasProgram held show.explore c.deref.result.now asked.image a) (sym c.deref-2.ensures.value) c.in_ok-config.ensures.program in
+    let program = subst (λ (a : List ℕ). HasProgramBy held show.explore c.deref.result.now asked.image asked.symbols a) (sym c.deref-2.ensures.value) c.in_ok-config.ensures.symbols in
     err_more _ _ c.judge-judgement.result
     (λ fault is. memory_left fault _ _ _ is
-    (has held show asked.config asked.image c.deref-2.result.now _ _ c.in-Ok.exploration c.in_ok-config.ensures.config.0 c.in_ok-config.ensures.config.1 c.deref.ensures.value program c.in_ok-config.ensures.names
+    (has held show asked.config asked.image asked.symbols c.deref-2.result.now _ _ c.in-Ok.exploration c.in_ok-config.ensures.config.0 c.in_ok-config.ensures.config.1 c.deref.ensures.value program c.in_ok-config.ensures.names
     c.in-Ok.ensures
     _ (all_of _ _ _ c.in_ok-print.ensures.printed)))
     c.judge-judgement.ensures.told
 
 pub returns-clause-spared : goal.returns-clause-spared
-returns-clause-spared g c = spared_after _ _ _ _ c.in_ok-config.ensures.stays (spares_wider _ _ _ _ (script_file _ _ c.args.wanted.now.explore.scripts) c.keep.ensures.spared)
+returns-clause-spared g c = spared_after _ _ _ _ c.in_ok-config.ensures.stays (spares_wider _ _ _ _ (script_file _ _ _ c.args.wanted.now.explore.scripts) c.keep.ensures.spared)
 
 -- files are as before where the fault comes before the scripts
 pub returns-in_err-config-clause-untouched : goal.returns-in_err-config-clause-untouched
@@ -116,10 +116,10 @@ returns-clause-noted g c =
     let show = c.args.wanted.now in
     let held = g.F.Files.held c.args.files.now in
     let asked = c.in_ok-config.field-0 in
-    let program = subst (λ (a : List ℕ). HasProgram held show.explore c.deref.result.now asked.image a) (sym c.deref-2.ensures.value) c.in_ok-config.ensures.program in
+    let program = subst (λ (a : List ℕ). HasProgramBy held show.explore c.deref.result.now asked.image asked.symbols a) (sym c.deref-2.ensures.value) c.in_ok-config.ensures.symbols in
     ok_more _ _ c.judge-judgement.result
     (λ judgement so.
-    refused held show asked.config asked.image c.deref-2.result.now _ _ c.in-Ok.exploration c.in_ok-config.ensures.config.0 c.in_ok-config.ensures.config.1 c.deref.ensures.value program c.in_ok-config.ensures.names
+    refused held show asked.config asked.image asked.symbols c.deref-2.result.now _ _ c.in-Ok.exploration c.in_ok-config.ensures.config.0 c.in_ok-config.ensures.config.1 c.deref.ensures.value program c.in_ok-config.ensures.names
     c.in-Ok.ensures
     _ _ _ _ c.in_ok-print.ensures.printed c.in_ok-config.ensures.allowed so)
     c.judge-judgement.ensures.noted
@@ -129,9 +129,9 @@ returns-in_err-keep-clause-judged_first g c =
     let show = c.args.wanted.now in
     let held = g.F.Files.held c.args.files.now in
     let asked = c.in_ok-config.field-0 in
-    let program = subst (λ (a : List ℕ). HasProgram held show.explore c.deref.result.now asked.image a) (sym c.deref-2.ensures.value) c.in_ok-config.ensures.program in
+    let program = subst (λ (a : List ℕ). HasProgramBy held show.explore c.deref.result.now asked.image asked.symbols a) (sym c.deref-2.ensures.value) c.in_ok-config.ensures.symbols in
     on_err_of c.from_residual-in_err-keep.result (inr
-    (refused held show asked.config asked.image c.deref-2.result.now _ _ c.in-Ok.exploration c.in_ok-config.ensures.config.0 c.in_ok-config.ensures.config.1 c.deref.ensures.value program c.in_ok-config.ensures.names
+    (refused held show asked.config asked.image asked.symbols c.deref-2.result.now _ _ c.in-Ok.exploration c.in_ok-config.ensures.config.0 c.in_ok-config.ensures.config.1 c.deref.ensures.value program c.in_ok-config.ensures.names
     c.in-Ok.ensures
     _ _ _ _ c.in_ok-print.ensures.printed c.in_ok-config.ensures.allowed
     (begun_by _ _ _ c.judge-judgement.result c.judge-judgement.ensures.noted c.judge-judgement.ensures.silent)))

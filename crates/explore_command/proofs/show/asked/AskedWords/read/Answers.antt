@@ -1,6 +1,6 @@
 use Rattle.std.proofs.Common.{inl, inr}
 use Rattle.command_files.proofs.Left.{handed_up, image_as_before}
-use Rattle.explore_command.proofs.Asking.{program, unshown_told}
+use Rattle.explore_command.proofs.Asking.{program, program_by, unshown_told}
 use Rattle.explore_command.proofs.show.asked.AskedWords.read.Goals as goal
 
 pub returns-in_err-allowed-clause-told : goal.returns-in_err-allowed-clause-told
@@ -23,3 +23,8 @@ pub returns-clause-program : goal.returns-clause-program
 returns-clause-program g c =
     let named = c.in_ok-named.named in
     program (g.F.Files.held c.args.files.now) (g.F.Files.held c.allow_file.new.files) c.args.wanted c.args.words.now named.image named.names c.in_ok-allowed.ensures.stays c.in_ok-named.ensures.image _ c.in_ok-targets.ensures.placed c.in_ok-targets.ensures.inside
+
+pub returns-clause-symbols : goal.returns-clause-symbols
+returns-clause-symbols g c =
+    let named = c.in_ok-named.named in
+    program_by (g.F.Files.held c.args.files.now) (g.F.Files.held c.allow_file.new.files) c.args.wanted c.args.words.now named.image named.names c.in_ok-allowed.ensures.stays c.in_ok-named.ensures.image _ c.in_ok-targets.ensures.placed c.in_ok-targets.ensures.inside

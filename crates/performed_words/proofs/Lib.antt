@@ -1,0 +1,2 @@
+pub mod Aligned
+mod Nothing
