@@ -1,14 +1,21 @@
 #!/usr/bin/env python3
-"""Says whether each crate stands on its own room and on rooms above it alone.
+"""Says whether each crate stands on its own room and on rooms above it alone, and whether the crates' ways are few.
 
 usage: tools/rooms.py     (from the top of the repository)
 
 crates.txt lists the crates by room: a line `# Room NAME: what it has`, and below it the room's crates. A crate may stand on
 crates of its own room and of rooms above it in that list. The status is 1 where one doesn't, or stands there twice, and each
-is told."""
+is told.
+
+A way is a crate, one that it names in its line, one that this names, and so on. `rt ci` reads a crate's files once for each
+way that leads to it, for each library twice: 3,800,000 ways took it more than 4 hours. So a crate that wants little of
+another takes it by one that it stands on anyway, which passes it on (`pub use`), and the status is 1 where the libraries have
+more ways than WAYS."""
 import collections
 import os
 import sys
+
+WAYS = 200_000
 
 
 def read_rooms(lines):
@@ -27,6 +34,13 @@ def read_rooms(lines):
     return rooms, crates, twice
 
 
+def count_ways(name, crates, ways):
+    """Counts the ways that begin at a crate, into ways."""
+    if name not in ways:
+        ways[name] = 1 + sum(count_ways(other, crates, ways) for other in crates[name][1] if other in crates)
+    return ways[name]
+
+
 def main():
     with open("crates.txt", encoding="utf-8") as file:
         rooms, crates, twice = read_rooms(file.read().splitlines())
@@ -37,10 +51,16 @@ def main():
         for other in below:
             if other in crates and crates[other][0] > room:
                 faults.append(f"{name} ({rooms[room]}) stands on {other} ({rooms[crates[other][0]]})")
+    ways = {}
+    for name in crates:
+        count_ways(name, crates, ways)
+    ways = sum(number for name, number in ways.items() if not os.path.isfile(f"crates/{name}/src/main.rt"))
+    if ways > WAYS:
+        faults.append(f"the libraries have {ways} ways, more than {WAYS}: name fewer crates in a line of crates.txt")
     for fault in faults:
         print(fault)
     counts = collections.Counter(room for room, _ in crates.values())
-    print(f"{len(crates)} crates in {len(rooms)} rooms: " + ", ".join(f"{name} {counts[number]}" for number, name in enumerate(rooms)))
+    print(f"{len(crates)} crates in {len(rooms)} rooms: " + ", ".join(f"{name} {counts[number]}" for number, name in enumerate(rooms)) + f"; {ways} ways")
     sys.exit(bool(faults))
 
 

@@ -18,9 +18,9 @@ use Rattle.architecture_outcomes.specs.Outcomes.{TellEach, end_of, ends_of, of_w
 use Rattle.elf_loader.specs.Image.{Initial}
 use Rattle.explorer.specs.Orders.{outcome_total, same_outcome}
 use Rattle.explorer.specs.Ranks.{outcome_cmp}
-use Rattle.flat_exploration.specs.Outcomes.{Outcome as End, performed_word}
+use Rattle.performed_words.specs.Outcomes.{Outcome as End, performed_word}
 use Rattle.machine_types.specs.declared.config.Config.{Config}
-use Rattle.window_model.specs.Complete.{TellsEachAllowed, ending_of}
+use Rattle.window_search.specs.WindowModelComplete.{TellsEachAllowed, ending_of}
 use Rattle.window_search.specs.Told.{endings_of}
 use Rattle.witnesses.specs.declared.witness.Witness.{Witness}
 use Rattle.witnesses.specs.Witnesses.{IsWitness}

@@ -8,7 +8,7 @@ use Rattle.architecture_outcomes.specs.Outcomes.{IsMachine, end_of, ends_of, of_
 use Rattle.explorer.specs.declared.found.Found.{Found}
 use Rattle.explorer.specs.Ends.{outcome_of, outcomes_of}
 use Rattle.explorer.specs.Ranks.{outcome_cmp}
-use Rattle.flat_exploration.specs.Outcomes.{Outcome as End}
+use Rattle.performed_words.specs.Outcomes.{Outcome as End}
 
 pub same_ends : (fs : List Found) → outcomes_of fs ≡ ends_of (map of_found fs)
 same_ends [] = refl

@@ -7,7 +7,7 @@ use Rattle.architecture_outcomes.specs.declared.outcome.Outcome.{Outcome}
 use Rattle.architecture_outcomes.specs.Outcomes.{IsWitnessed, NeverEnds, end_of, ends_of, of_witness, tells}
 use Rattle.elf_loader.specs.Image.{Initial}
 use Rattle.explorer.specs.Outcomes.{HasEachEnd}
-use Rattle.flat_exploration.specs.Outcomes.{Outcome as End, performed_word}
+use Rattle.performed_words.specs.Outcomes.{Outcome as End, performed_word}
 use Rattle.machine_types.specs.declared.config.Config.{Config}
 use Rattle.witnesses.specs.declared.witness.Witness.{Witness}
 use Rattle.witnesses.specs.Witnesses.{IsWitness}

@@ -13,7 +13,7 @@ use Rattle.std.proofs.lemmas.List.Sums.{sum_by-append, sum_by-cons}
 use Rattle.architecture_outcomes.specs.declared.outcome.Outcome.{Outcome}
 use Rattle.architecture_outcomes.specs.Outcomes.{TellOnce, end_of, tells}
 use Rattle.explorer.proofs.Once.{once_of_strict, strict_of_once, times_moved}
-use Rattle.flat_exploration.specs.Outcomes.{Outcome as End}
+use Rattle.performed_words.specs.Outcomes.{Outcome as End}
 use Rattle.explorer.specs.Orders.{outcome_total, same_outcome}
 use Rattle.explorer.specs.Ranks.{outcome_cmp}
 

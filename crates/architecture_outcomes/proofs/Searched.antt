@@ -13,7 +13,7 @@ use Rattle.std.proofs.lemmas.Map.Keys.{Less-from_sorted}
 use Rattle.std.proofs.Math.Logic.{⊎_elim}
 use Rattle.architecture_outcomes.specs.declared.outcome.Outcome.{Outcome}
 use Rattle.architecture_outcomes.specs.Outcomes.{end_of, tells}
-use Rattle.flat_exploration.specs.Outcomes.{Outcome as End}
+use Rattle.performed_words.specs.Outcomes.{Outcome as End}
 use Rattle.explorer.specs.Orders.{outcome_total}
 use Rattle.explorer.specs.Ranks.{outcome_cmp}
 

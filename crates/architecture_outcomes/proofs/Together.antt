@@ -11,9 +11,9 @@ use Rattle.architecture_outcomes.specs.Outcomes.{IsDecided, IsMachine, IsWitness
 use Rattle.architecture_outcomes.specs.Visited.{TellsEnd}
 use Rattle.elf_loader.specs.Image.{Initial}
 use Rattle.explorer.specs.Outcomes.{HasEachEnd}
-use Rattle.flat_exploration.specs.Outcomes.{Outcome as End, machine_outcome}
+use Rattle.performed_words.specs.Outcomes.{Outcome as End, machine_outcome}
 use Rattle.machine_types.specs.declared.config.Config.{Config}
-use Rattle.schedules.specs.Schedules.{led}
+use Rattle.explorer.specs.Schedules.{led}
 
 pub Contains-map : {X Y : Type 0} (f : X → Y) (xs : List X) (x : X) → Contains xs x → Contains (map f xs) (f x)
 Contains-map f xs x (k, l, e) = (k, subst (λ n. k < n) (sym (length-map xs f)) l, get_or-map f xs k x (f x) l ∙ ap f e)

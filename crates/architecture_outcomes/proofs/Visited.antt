@@ -6,8 +6,8 @@ use Rattle.architecture_outcomes.specs.Visited.{AreMachineStates}
 use Rattle.elf_loader.specs.Image.{Initial}
 use Rattle.explorer.specs.declared.exploration.Exploration.{Exploration}
 use Rattle.explorer.specs.Visited.{AreVisited}
-use Rattle.flat_exploration.specs.Outcomes.{Outcome as End}
-use Rattle.flat_model.specs.Flat.{Flat}
+use Rattle.performed_words.specs.Outcomes.{Outcome as End}
+use Rattle.witnesses.specs.Flat.{Flat}
 use Rattle.machine_types.specs.declared.config.Config.{Config}
 use Rattle.state_search.specs.declared.findings.Extent.{Extent}
 

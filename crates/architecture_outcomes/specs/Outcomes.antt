@@ -10,10 +10,10 @@ use Rattle.explorer.specs.declared.found.Found.{Found}
 use Rattle.explorer.specs.declared.found.Realisation.{Realisation}
 use Rattle.explorer.specs.Ends.{IsRealIn, outcome_with}
 use Rattle.explorer.specs.Ranks.{outcome_cmp}
-use Rattle.flat_exploration.specs.Outcomes.{HasEnded, Outcome as End, machine_outcome, performed_word}
+use Rattle.performed_words.specs.Outcomes.{HasEnded, Outcome as End, machine_outcome, performed_word}
 use Rattle.machine_types.specs.declared.config.Config.{Config}
 use Rattle.machine_types.specs.declared.event.Event.{Event}
-use Rattle.schedules.specs.Schedules.{led}
+use Rattle.explorer.specs.Schedules.{led}
 use Rattle.std.specs.Global.{Vec}
 use Rattle.trace_recorder.specs.declared.trace.Trace.{Trace}
 use Rattle.witnesses.specs.declared.witness.Witness.{Witness}

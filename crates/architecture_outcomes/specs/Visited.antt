@@ -4,9 +4,9 @@ use Rattle.architecture_outcomes.specs.declared.outcome.Outcome.{Outcome}
 use Rattle.architecture_outcomes.specs.Outcomes.{machine_end}
 use Rattle.elf_loader.specs.Image.{Initial}
 use Rattle.explorer.specs.Visited.{AreDistinct}
-use Rattle.flat_exploration.specs.Onward.{Leads, seen_opening}
-use Rattle.flat_exploration.specs.Outcomes.{Outcome as End, shown}
-use Rattle.flat_model.specs.Flat.{Flat}
+use Rattle.performed_words.specs.Onward.{Leads, seen_opening}
+use Rattle.performed_words.specs.Outcomes.{Outcome as End, shown}
+use Rattle.witnesses.specs.Flat.{Flat}
 use Rattle.machine_types.specs.declared.config.Config.{Config}
 use Rattle.state_search.specs.declared.findings.Extent.{Extent}
 use Rattle.state_search.specs.declared.findings.Extent.TheVariants.{Complete, LimitMet, OutOfMemory}

@@ -5,7 +5,7 @@ ghost use Rattle.std.specs.List.Sorted.{IsStrictlySortedBy};
 ghost use Rattle.std.specs.Ordering.{on};
 ghost use Rattle.architecture_outcomes.specs.Outcomes.{IsDecided, IsWitnessed, TellEach, TellOnce, end_of, ends_of, tells};
 ghost use Rattle.performed_words.specs.Words.{are_aligned};
-ghost use Rattle.window_model.specs.Complete.{TellsEachAllowed};
+ghost use Rattle.window_search.specs.WindowModelComplete.{TellsEachAllowed};
 ghost use Rattle.window_search.specs.Openings.{NeverOpens};
 ghost use Rattle.window_search.specs.Told.{endings_of};
 ghost use Rattle.witnesses.specs.Witnesses.{IsWitness};

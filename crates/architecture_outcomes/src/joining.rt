@@ -4,8 +4,8 @@ ghost use Rattle.std.specs.List.Sorted.{IsStrictlySortedBy};
 ghost use Rattle.std.specs.Ordering.{on};
 ghost use Rattle.architecture_outcomes.specs.Outcomes.{IsDecided, IsWitnessed, TellsEachEnd, end_of, ends_of};
 ghost use Rattle.architecture_outcomes.specs.Visited.{AreMachineStates, TellsEnd};
-ghost use Rattle.flat_model.specs.Flat.{Flat};
-ghost use Rattle.window_model.specs.Complete.{TellsEachAllowed};
+ghost use Rattle.witnesses.specs.Flat.{Flat};
+ghost use Rattle.window_search.specs.WindowModelComplete.{TellsEachAllowed};
 ghost use Rattle.window_search.specs.Openings.{NeverOpens};
 ghost use Rattle.explorer.specs.Ranks.{outcome_cmp};
 ghost use Rattle.performed_words.specs.Words.{CanShowEach};
@@ -18,7 +18,7 @@ use explorer::Exploring;
 use machine_types::Config;
 use state_search::{Extent, Watch};
 use std::alloc::{AllocError, Global};
-use window_machine::WIDEST;
+use window_search::window_machine::WIDEST;
 use window_search::{Allowed, Reach};
 
 /// Tells of a search behind another one what both found.

@@ -4,7 +4,7 @@ ghost use Rattle.std.specs.List.Sorted.{IsStrictlySortedBy};
 ghost use Rattle.std.specs.Ordering.{on};
 ghost use Rattle.architecture_outcomes.specs.Outcomes.{IsMachine, IsWitnessed, end_of, ends_of, of_found};
 ghost use Rattle.architecture_outcomes.specs.Visited.{AreMachineStates};
-ghost use Rattle.flat_model.specs.Flat.{Flat};
+ghost use Rattle.witnesses.specs.Flat.{Flat};
 ghost use Rattle.explorer.specs.Outcomes.{HasEachEnd};
 ghost use Rattle.explorer.specs.Ranks.{outcome_cmp};
 ghost use Rattle.performed_words.specs.Words.{CanShowEach};

@@ -3,9 +3,9 @@ ghost use Rattle.std.specs.Prelude.{◌≡◌};
 ghost use Rattle.architecture_outcomes.specs.Outcomes.{of_witness};
 
 use explorer::Realisation;
-use flat_model::HartResult;
 use trace_recorder::Trace;
 use witnesses::Witness;
+use witnesses::flat_model::HartResult;
 
 /// Who comes to an outcome, and by what.
 #[derive(Drop)]

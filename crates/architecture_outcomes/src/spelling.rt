@@ -12,8 +12,8 @@ use itoa::Buffer;
 use machine_types::MemoryModel;
 use state_search::Extent;
 use std::alloc::{AllocError, Global};
-use window_machine::LONGEST_ROW;
 use window_search::Reach;
+use window_search::window_machine::LONGEST_ROW;
 
 fn spell_number(into: &mut Vec<u8>, number: u64) -> Result<(), AllocError>
     ensures { OnOk result (into.new.items ≡ into.old.items ++ decimal number) }

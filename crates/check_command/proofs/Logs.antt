@@ -6,8 +6,8 @@ use Rattle.check_command.specs.Messages.{HoldsLog, memory_told}
 use Rattle.command_files.specs.Contents.{Contents, HoldsBytes}
 use Rattle.elf_loader.specs.Image.{Initial}
 use Rattle.log_text.specs.Ending as ending
-use Rattle.message_judge.specs.Laws.{IsVerdict}
-use Rattle.message_judge.specs.declared.verdict.MessageVerdict.{MessageVerdict}
+use Rattle.log_text.specs.Laws.{IsVerdict}
+use Rattle.log_text.specs.MessageVerdict.{MessageVerdict}
 use Rattle.trace_recorder.specs.History.{History}
 use Rattle.trace_recorder.specs.declared.logged.Logged.{Logged}
 use Rattle.trace_text.specs.TraceLimits.{IsTrace}

@@ -10,8 +10,8 @@ use Rattle.command_files.specs.declared.fault.Fault.{Fault}
 use Rattle.elf_loader.specs.Image.{Initial}
 use Rattle.log_text.specs.Ending as ending
 use Rattle.log_text.specs.Verdicts.{verdict_text}
-use Rattle.message_judge.specs.Laws.{IsVerdict}
-use Rattle.message_judge.specs.declared.verdict.MessageVerdict.{MessageVerdict}
+use Rattle.log_text.specs.Laws.{IsVerdict}
+use Rattle.log_text.specs.MessageVerdict.{MessageVerdict}
 use Rattle.text_fields.specs.Writing.{Begins}
 use Rattle.trace_recorder.specs.History.{History}
 use Rattle.trace_text.specs.TraceLimits.{IsTrace}

@@ -9,9 +9,9 @@ ghost use Rattle.check_command.specs.Checking.{IsCheckFault};
 ghost use Rattle.command_files.specs.Faults.{LeavesAtFault};
 
 use crate::reading::whole_trace;
+use command_files::notes::{LengthNote, NamingNote, OrderNote, RunNote};
 use command_files::{Fault, Files, remark, text_in};
 use machine_types::MemoryModel;
-use notes::{LengthNote, NamingNote, OrderNote, RunNote};
 use rvwmo_order::{CheckError, Verdict, check_model};
 use std::alloc::Global;
 use std::io::{self, Write};

@@ -6,14 +6,14 @@ ghost use Rattle.std.specs.List.{list_any};
 ghost use Rattle.text_fields.specs.Writing.{Writes};
 ghost use Rattle.log_text.specs.Verdicts.{verdict_text};
 ghost use Rattle.check_command.specs.Messages.{IsLogCutOff, IsLogFault, IsLogJudged, memory_told};
-ghost use Rattle.message_judge.specs.Laws.{IsVerdict};
+ghost use Rattle.log_text.specs.Laws.{IsVerdict};
 ghost use Rattle.command_files.specs.Faults.{LeavesAtFault};
 
 use crate::reading::whole_trace;
 use command_files::{Escaped, Fault, Files, remark, text_in};
 use elf_loader::Image;
+use log_text::message_judge::{MessageBreach, MessageVerdict, judge_ended, judge_messages};
 use log_text::{Contradiction, Objection, Unanswered, end_text, line_of_message, put_verdict};
-use message_judge::{MessageBreach, MessageVerdict, judge_ended, judge_messages};
 use open_questions::left_open;
 use std::alloc::{AllocError, Global};
 use std::io::{self, Write};

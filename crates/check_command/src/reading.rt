@@ -5,8 +5,8 @@ ghost use Rattle.check_command.specs.Checking.{IsTraceFault};
 ghost use Rattle.trace_text.specs.TraceLimits.{IsTrace};
 ghost use Rattle.trace_text.specs.Traces.{text};
 
+use command_files::notes::{BehindNote, TraceNote};
 use command_files::{Fault, Files, remark};
-use notes::{BehindNote, TraceNote};
 use std::alloc::Global;
 use trace_recorder::Trace;
 use trace_text::{TextCode, read_trace};

@@ -14,7 +14,7 @@ use Rattle.machine_model.specs.Views.{State, opening}
 use Rattle.machine_parts.specs.Applying.{Answers}
 use Rattle.coherent_machine.specs.Machine.{IsReached, KeepsHeadline, Replayed, replayed_from, unless_refused}
 use Rattle.machine_parts.specs.declared.errors.ApplyError.{ApplyError}
-use Rattle.trace_recorder.specs.History.{entries_of}
+use Rattle.machine_model.specs.History.{entries_of}
 
 pub reached_opening : (image : Initial) (config : Config) → IsImage image → IsReached (opening image config)
 reached_opening image config loaded = record { events = []; loaded = loaded; leads = refl }

@@ -15,6 +15,7 @@ use crate::outputs::Outputs;
 use crate::views::Views;
 use elf_loader::Image;
 use hart::Batch;
+use machine_model::trace_recorder::Trace;
 use machine_model::{
     headline, image_and_config_stay, log_lawful_always, nothing_is_rewritten, ready_always,
     sound_always,
@@ -23,7 +24,6 @@ use machine_parts::{ApplyError, Parts};
 use machine_types::{Config, Event, Outcome};
 use std::alloc::{AllocError, Global};
 use std::marker::Model;
-use trace_recorder::Trace;
 
 /// Harts with their store buffers and caches, the manager of main memory, and the trace so far. Some list
 /// of events leads to it from reset.

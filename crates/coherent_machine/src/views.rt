@@ -3,10 +3,10 @@
 ghost use Rattle.std.specs.Prelude.{◌≡◌, ◌<◌, length};
 ghost use Rattle.machine_model.specs.Views.{node_at};
 
-use backing_memory::Memory;
 use client_cache::ClientCache;
 use directory::Directory;
 use hart::Hart;
+use machine_model::backing_memory::Memory;
 use machine_parts::Parts;
 use machine_types::Config;
 use std::marker::Model;

@@ -1,5 +1,5 @@
 -- Which faults tell of a file and of a replay, and what a fault leaves on standard output.
-use Rattle.coherent_machine.specs.Machine.{IsRefusedAt}
+use Rattle.event_stream.specs.Machine.{IsRefusedAt}
 use Rattle.command_files.specs.Files.{HoldsImage, HoldsScript, image_answer}
 use Rattle.command_files.specs.Contents.{HasLongFirstLine, Contents, HoldsBytes}
 use Rattle.command_files.specs.declared.fault.Fault.TheVariants.{CannotRead, CannotWrite, Event, Image, OutOfMemory, Text}
@@ -9,8 +9,8 @@ use Rattle.event_stream.specs.Lines.{script_line_of}
 use Rattle.command_settings.specs.declared.wanted.Replay.{Replay}
 use Rattle.elf_loader.specs.Image.{Initial}
 use Rattle.elf_loader.specs.declared.error.LoadError.{LoadError}
-use Rattle.machine_model.specs.Views.{opening}
-use Rattle.machine_parts.specs.declared.errors.ApplyError.{ApplyError}
+use Rattle.machine_traces.specs.Views.{opening}
+use Rattle.event_stream.specs.ApplyError.{ApplyError}
 use Rattle.std.specs.Borrow.{Bor}
 use Rattle.std.specs.Prelude.{◌≡◌, ◌≢◌, ◌⊎◌, ◌*◌, ℕ, Bool, Err, List, Option}
 use Rattle.trace_text.specs.Refusals.{IsScriptRefusal}

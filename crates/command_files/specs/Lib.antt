@@ -5,3 +5,5 @@ pub mod Files
 pub mod Contents
 pub mod Sizes
 pub mod Status
+pub use Rattle.event_stream.specs.declared.strictness.Strictness
+pub use Rattle.event_stream.specs.declared.strictness.Strictness.TheVariants

@@ -8,9 +8,9 @@ use Rattle.command_files.specs.declared.fault.Fault.TheVariants as fault
 use Rattle.command_files.specs.declared.fault.Fault.TheVariants.{BadAddress, BytesAfterTrace, CannotMake, CannotRead, CannotShow, CannotWrite, Check, Configuration, Event, Image, NoThread, NothingHappens, OtherImage, OutOfMemory, Text, TooManyRows}
 use Rattle.command_files.specs.declared.fault.Unshown.{Unshown}
 use Rattle.command_files.specs.declared.fault.Unshown.TheVariants.{Elsewhere, NoSymbol, NoWord}
-use Rattle.coherent_machine.specs.declared.errors.ReplayError.{ReplayError}
-use Rattle.coherent_machine.specs.declared.errors.ReplayError.TheVariants as replay
-use Rattle.machine_parts.specs.declared.errors.ApplyError.TheVariants as applying
+use Rattle.event_stream.specs.ReplayError.{ReplayError}
+use Rattle.event_stream.specs.TheVariants as replay
+use Rattle.event_stream.specs.ApplyErrorVariants as applying
 use Rattle.event_stream.specs.Lines.{script_line_of}
 use Rattle.event_stream.specs.declared.errors.StreamError.{StreamError}
 use Rattle.event_stream.specs.declared.errors.StreamError.TheVariants as stream

@@ -7,11 +7,11 @@ ghost use Rattle.event_stream.specs.Lines.{script_line_of};
 ghost use Rattle.command_files.specs.declared.fault.Fault.TheVariants.{OutOfMemory};
 
 use crate::escaped::Escaped;
-use coherent_machine::{ApplyError, ReplayError};
 use elf_loader::LoadError;
+use event_stream::coherent_machine::{ApplyError, ReplayError};
 use event_stream::{StreamError, outcome_name};
 use machine_types::Outcome;
-use rvwmo_order::CheckError;
+use notes::rvwmo_order::CheckError;
 use std::alloc::AllocError;
 use std::io::{self, ErrorKind};
 use thiserror::Error;

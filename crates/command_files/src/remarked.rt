@@ -5,8 +5,8 @@ ghost use Rattle.command_files.specs.Contents.{IsUnread, HoldsBytes};
 
 use crate::fault::Fault;
 use crate::files::Files;
-use coherent_machine::ApplyError;
 use command_settings::MachineOptions;
+use event_stream::coherent_machine::ApplyError;
 use notes::{EventNote, OutsideNote, SizeNote};
 use std::alloc::Global;
 use std::fmt::Display;

@@ -13,7 +13,7 @@ use Rattle.command_settings.specs.declared.wanted.Explore.{Explore as Sought}
 use Rattle.command_settings.specs.declared.wanted.Settings.{Settings}
 use Rattle.command_settings.specs.declared.wanted.Show.{Show as Shown}
 use Rattle.command_settings.specs.declared.wanted.Settings.TheVariants.{Check, Explain, Explore, Show}
-use Rattle.event_stream.specs.declared.strictness.Strictness.{Strictness}
+use Rattle.command_files.specs.Strictness.{Strictness}
 use Rattle.command_line.specs.Telling.{ComesBeforeFiles, IsFaultOfCommand, IsShowingFault}
 use Rattle.trace_commands.specs.Kinds.{IsTellingFault, IsTold}
 use Rattle.explore_command.specs.Exploring.{IsExploreFault, LeavesPart}

@@ -21,7 +21,7 @@ use Rattle.command_settings.specs.declared.wanted.Explore.{Explore as Sought}
 use Rattle.command_settings.specs.declared.wanted.Settings.{Settings}
 use Rattle.command_settings.specs.declared.wanted.Settings.TheVariants.{Chart, Check, Explain, Explore, Fences, Replay, Run, Show}
 use Rattle.command_settings.specs.declared.wanted.Show.{Show as Shown}
-use Rattle.event_stream.specs.declared.strictness.Strictness.{Strictness}
+use Rattle.command_files.specs.Strictness.{Strictness}
 use Rattle.script_commands.specs.Explaining.{LeavesOfStream}
 use Rattle.trace_commands.specs.Kinds.{IsHalfTold}
 use Rattle.explore_command.proofs.Explored.{all_of}

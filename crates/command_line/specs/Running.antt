@@ -16,8 +16,8 @@ use Rattle.explore_command.specs.Sampling.{IsSampleTold, SampleHas, SampleRefusa
 use Rattle.explore_command.specs.Showing.{AreWordsShown, IsElsewhere, WordRefusals, WordsHave}
 use Rattle.script_commands.specs.Addresses.{address}
 use Rattle.script_commands.specs.Charting.{IsCharted, IsPictureCutOff as IsHalfCharted}
-use Rattle.check_command.specs.Checking.{IsVerdictTold, IsVerdictCutOff}
-use Rattle.check_command.specs.Messages.{IsLogCutOff, IsLogJudged}
+use Rattle.trace_commands.specs.Checking.{IsVerdictTold, IsVerdictCutOff}
+use Rattle.trace_commands.specs.Messages.{IsLogCutOff, IsLogJudged}
 use Rattle.run_command.specs.Running.{IsRun, IsRunCutOff, IsRunEndTold}
 use Rattle.command_settings.specs.Refusals.{IsFitting, IsForHelp}
 use Rattle.command_settings.specs.Settings.{AreConflicting, IsNamed}
@@ -27,8 +27,8 @@ use Rattle.command_settings.specs.declared.wanted.Explore.{Explore as Seeking}
 use Rattle.command_settings.specs.declared.wanted.Settings.{Settings}
 use Rattle.command_settings.specs.declared.wanted.Settings.TheVariants.{Chart, Check, Explain, Explore, Fences, Replay, Run, Show}
 use Rattle.command_settings.specs.declared.wanted.Show.{Show as Showing}
-use Rattle.event_stream.specs.declared.strictness.Strictness.{Strictness}
-use Rattle.event_stream.specs.declared.strictness.Strictness.TheVariants.{Lenient, Strict}
+use Rattle.command_files.specs.Strictness.{Strictness}
+use Rattle.command_files.specs.TheVariants.{Lenient, Strict}
 use Rattle.message_judge.specs.declared.verdict.MessageBreach.{MessageBreach}
 use Rattle.message_judge.specs.declared.verdict.MessageVerdict.TheVariants.{Lawful, Unlawful}
 use Rattle.rvwmo_order.specs.declared.verdict.Code.{Code}

@@ -3,8 +3,8 @@ use Rattle.std.specs.Prelude.{◌≡◌, ◌⊎◌, ℕ, Bool, true, false, nat_
 use Rattle.clap.specs.Words.{Text}
 use Rattle.explore_command.specs.Searching.{IsSearchFault}
 use Rattle.script_commands.specs.Charting.{IsChartFault}
-use Rattle.check_command.specs.Checking.{IsCheckFault}
-use Rattle.check_command.specs.Messages.{IsLogFault}
+use Rattle.trace_commands.specs.Checking.{IsCheckFault}
+use Rattle.trace_commands.specs.Messages.{IsLogFault}
 use Rattle.command_files.specs.Faults.{IsReplayFault, LeavesAtFault}
 use Rattle.command_files.specs.Contents.{Contents}
 use Rattle.command_files.specs.Status.{status_of}

@@ -11,10 +11,9 @@ ghost use Rattle.explore_command.specs.Exploring.{ComesBeforeScripts, IsExploreF
 ghost use Rattle.explore_command.specs.Keeping.{SparesOthers};
 ghost use Rattle.explore_command.specs.Showing.{IsFirstOf};
 
-use check_command::{check_file, check_messages};
+use command_files::event_stream::Strictness;
 use command_files::{Fault, Files, Unshown};
 use command_settings::{Check, Explore, Settings, Show};
-use event_stream::Strictness;
 use explore_command::{Judgement, architecture_files, explore_files, sample_files, show_files};
 use fences_command::fences_files;
 use message_judge::MessageVerdict;
@@ -26,6 +25,7 @@ use std::alloc::Global;
 use std::io::Write;
 use std::sync::Wait;
 use std::thread::Threads;
+use trace_commands::check_command::{check_file, check_messages};
 use trace_commands::explain_files;
 
 /// Carries out what the words ask for. What it answers is not allowed where an order or messages aren't

@@ -4,7 +4,9 @@
 
 mod carrying;
 mod laws;
+mod program;
 mod running;
 
 pub use laws::runs_replay;
+pub use program::run_program;
 pub use running::run_line;

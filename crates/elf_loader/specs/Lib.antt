@@ -7,3 +7,4 @@ pub mod Load
 pub mod Placed
 pub mod Raw
 pub mod Size
+pub use Rattle.machine_types.specs.declared.limits.TheConstants

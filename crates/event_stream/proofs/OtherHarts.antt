@@ -37,7 +37,7 @@ use Rattle.tl_types.specs.declared.message.Body.{Body}
 use Rattle.tl_types.specs.declared.message.Body.TheVariants.{AcquireBlock, ProbeBlock, ProbeAck, ProbeAckData, Release, ReleaseData, Grant, GrantData, ReleaseAck, GrantAck}
 use Rattle.tl_types.specs.declared.permission.Cap.{Cap}
 use Rattle.tl_types.specs.declared.permission.Change.{Change}
-use Rattle.trace_recorder.specs.History.{History, entries_of, with_entry}
+use Rattle.trace_text.specs.History.{History, entries_of, with_entry}
 
 -- one list of lists is another at one place alone
 set_elsewhere : {X : Type 0} (l : List (List X)) (i j : ℕ) (new : List X) → (i ≡ j → ⊥) → slice_index_or (slice_set l i new) j [] ≡ slice_index_or l j []

@@ -46,8 +46,8 @@ use Rattle.tl_types.specs.declared.message.Body.TheVariants.{AcquireBlock, Probe
 use Rattle.tl_types.specs.declared.message.Msg.{Msg}
 use Rattle.tl_types.specs.declared.permission.Cap.{Cap}
 use Rattle.tl_types.specs.declared.permission.Change.{Change}
-use Rattle.trace_recorder.specs.History.{History, with_entry, with_logged, with_performed, with_status}
-use Rattle.trace_recorder.specs.declared.logged.Direction.TheVariants.{Sent, Taken}
+use Rattle.trace_text.specs.History.{History, with_entry, with_logged, with_performed, with_status}
+use Rattle.trace_text.specs.TheVariants.{Sent, Taken}
 use Rattle.event_stream.specs.Reports.{outputs_of}
 
 -- no hart has put anything out

@@ -11,9 +11,9 @@ use Rattle.machine_model.specs.Events.{Verdict, happens, hart_of, verdict}
 use Rattle.machine_model.specs.Events.Verdict.{IsBad, Keeps, IsLimited, Moves}
 use Rattle.machine_model.specs.Laws.{ChangesAreCounted}
 use Rattle.machine_model.specs.Views.{State}
-use Rattle.machine_parts.specs.Applying.{Answers}
-use Rattle.machine_parts.specs.declared.errors.ApplyError.{ApplyError}
-use Rattle.machine_parts.specs.declared.errors.ApplyError.TheVariants.{BadEvent, Limit, NoMemory}
+use Rattle.coherent_machine.specs.Applying.{Answers}
+use Rattle.coherent_machine.specs.ApplyError.{ApplyError}
+use Rattle.coherent_machine.specs.TheVariants.{BadEvent, Limit, NoMemory}
 use Rattle.rv32_exec.specs.declared.actions.Action.{Action}
 use Rattle.text_fields.specs.Writing.{Begins}
 use Rattle.text_fields.specs.Pages.{Paged}

@@ -14,7 +14,7 @@ use Rattle.machine_model.specs.Events.Verdict.{IsBad, Keeps, IsLimited, Moves}
 use Rattle.machine_model.specs.LawfulLog.{IsBeginningOf}
 use Rattle.machine_model.specs.Laws.{NothingIsRewritten}
 use Rattle.machine_model.specs.Views.{State, no_node, opening}
-use Rattle.trace_recorder.specs.History.{entries_of}
+use Rattle.trace_text.specs.History.{entries_of}
 use Rattle.event_stream.specs.declared.strictness.Strictness.{Strictness}
 use Rattle.event_stream.specs.declared.strictness.Strictness.TheVariants.{Lenient, Strict}
 use Rattle.event_stream.specs.Laws.{StreamIsTheTrace, entries_in, output_in}

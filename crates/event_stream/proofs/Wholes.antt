@@ -13,7 +13,7 @@ use Rattle.text_fields.specs.Writing.{Begins}
 use Rattle.text_fields.specs.Pages.{Paged}
 use Rattle.text_fields.proofs.Written.{begins_first}
 use Rattle.event_stream.proofs.Paging.{paged_fails, paged_then, paged_writes}
-use Rattle.trace_recorder.specs.History.{History}
+use Rattle.trace_text.specs.History.{History}
 use Rattle.event_stream.specs.declared.errors.StreamError.{StreamError}
 use Rattle.event_stream.specs.declared.errors.StreamError.TheVariants as errors
 use Rattle.event_stream.specs.declared.strictness.Strictness.{Strictness}

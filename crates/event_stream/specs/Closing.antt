@@ -15,9 +15,9 @@ use Rattle.machine_types.specs.declared.outcome.Outcome.TheVariants.{Retired, St
 use Rattle.machine_model.specs.Events.{verdict}
 use Rattle.machine_model.specs.Ready.{shape_of}
 use Rattle.machine_model.specs.Views.{State, line_size, node_at}
-use Rattle.machine_parts.specs.Applying.{answer_to}
-use Rattle.machine_parts.specs.declared.errors.ApplyError.{ApplyError}
-use Rattle.machine_parts.specs.declared.errors.ApplyError.TheVariants.{BadEvent, Limit, NoMemory}
+use Rattle.coherent_machine.specs.Applying.{answer_to}
+use Rattle.coherent_machine.specs.ApplyError.{ApplyError}
+use Rattle.coherent_machine.specs.TheVariants.{BadEvent, Limit, NoMemory}
 use Rattle.rv32_decode.specs.declared.instruction.Instr.{Instr}
 use Rattle.rv32_exec.specs.Actions.{addressed}
 use Rattle.rv32_exec.specs.declared.actions.Action.{Action}

@@ -8,7 +8,7 @@ use Rattle.machine_types.specs.declared.config.Config.{Config}
 use Rattle.machine_types.specs.declared.event.Event.{Event}
 use Rattle.machine_model.specs.Events.{hart_of}
 use Rattle.machine_model.specs.Views.{State, opening}
-use Rattle.trace_recorder.specs.History.{History, entries_of}
+use Rattle.trace_text.specs.History.{History, entries_of}
 use Rattle.event_stream.specs.declared.strictness.Strictness.{Strictness}
 use Rattle.event_stream.specs.Reports.{Report, StreamEnding, ending, outputs_of, reports}
 

@@ -13,3 +13,13 @@ pub mod Streams
 pub mod Writing
 pub mod Telling
 pub mod Laws
+pub use Rattle.coherent_machine.specs.declared.errors.ReplayError
+pub use Rattle.coherent_machine.specs.declared.errors.ReplayError.TheVariants
+pub use Rattle.coherent_machine.specs.Machine
+pub use Rattle.coherent_machine.specs.TheVariants as ApplyErrorVariants
+pub use Rattle.coherent_machine.specs.ApplyError
+pub use Rattle.coherent_machine.specs.Applying
+pub use Rattle.machine_model.specs.Events.Verdict
+pub use Rattle.machine_model.specs.Events
+pub use Rattle.machine_model.specs.Views
+pub use Rattle.machine_model.specs.Laws as MachineModelLaws

@@ -8,12 +8,12 @@ use Rattle.machine_types.specs.declared.outcome.Outcome.{Outcome}
 use Rattle.machine_model.specs.Events.{Verdict, happens, hart_of, verdict}
 use Rattle.machine_model.specs.Events.Verdict.{IsBad, Keeps, IsLimited, Moves}
 use Rattle.machine_model.specs.Views.{State, node_at}
-use Rattle.machine_parts.specs.declared.errors.ApplyError.{ApplyError}
-use Rattle.machine_parts.specs.declared.errors.ApplyError.TheVariants.{BadEvent, Limit}
+use Rattle.coherent_machine.specs.ApplyError.{ApplyError}
+use Rattle.coherent_machine.specs.TheVariants.{BadEvent, Limit}
 use Rattle.rv32_exec.specs.declared.actions.Action.{Action}
-use Rattle.trace_recorder.specs.declared.operation.OpId.{OpId}
-use Rattle.trace_recorder.specs.declared.logged.Logged.{Logged}
-use Rattle.trace_recorder.specs.History.{entries_of}
+use Rattle.trace_text.specs.OpId.{OpId}
+use Rattle.trace_text.specs.Logged.{Logged}
+use Rattle.trace_text.specs.History.{entries_of}
 use Rattle.event_stream.specs.declared.strictness.Strictness.{Strictness}
 use Rattle.event_stream.specs.declared.strictness.Strictness.TheVariants.{Lenient, Strict}
 

@@ -9,7 +9,7 @@ use Rattle.machine_model.specs.Views.{State, opening}
 use Rattle.text_fields.specs.Fields.{number, word, numbered}
 use Rattle.tl_types.specs.Line.{length_of}
 use Rattle.tl_types.specs.declared.line.LineSize.{LineSize}
-use Rattle.trace_recorder.specs.History.{History}
+use Rattle.trace_text.specs.History.{History}
 use Rattle.trace_text.specs.Scripts.{is_first_version}
 use Rattle.trace_text.specs.Traces.{image}
 use Rattle.event_stream.specs.declared.strictness.Strictness.{Strictness}

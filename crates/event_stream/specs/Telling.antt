@@ -11,7 +11,7 @@ use Rattle.machine_model.specs.Views.{State}
 use Rattle.rv32_exec.specs.declared.actions.Action.{Action}
 use Rattle.text_fields.specs.Pages.{Paged}
 use Rattle.text_fields.specs.Writing.{Begins}
-use Rattle.trace_recorder.specs.History.{entries_of}
+use Rattle.trace_text.specs.History.{entries_of}
 use Rattle.event_stream.specs.declared.errors.StreamError.{StreamError}
 use Rattle.event_stream.specs.declared.errors.StreamError.TheVariants as errors
 use Rattle.event_stream.specs.declared.report.Lengths.{Lengths}

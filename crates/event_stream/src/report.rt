@@ -1,7 +1,7 @@
 //! What an event came to, and by what it made the lists longer.
 ghost use Rattle.std.specs.Prelude.{◌≡◌, drop};
 ghost use Rattle.machine_model.specs.Events.{hart_of};
-ghost use Rattle.trace_recorder.specs.History as history;
+ghost use Rattle.trace_text.specs.History as history;
 ghost use Rattle.event_stream.specs.Reports as reports;
 ghost use Rattle.event_stream.specs.Telling.{lengths_of, report_of, report_behind};
 
@@ -9,7 +9,7 @@ use coherent_machine::{Machine, Views};
 use hart::Retired;
 use machine_types::{Event, Outcome};
 use rv32_exec::Action;
-use trace_recorder::{Logged, OpId, Trace};
+use trace_text::trace_recorder::{Logged, OpId, Trace};
 
 /// How long the lists are before an event of a hart, and how many events have changed the machine.
 #[derive(Clone, Copy, Debug)]

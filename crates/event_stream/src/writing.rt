@@ -26,7 +26,7 @@ use std::alloc::Global;
 use std::io::{self, Write};
 use text_fields::Page;
 use tl_types::LineSize;
-use trace_recorder::Trace;
+use trace_text::trace_recorder::Trace;
 use trace_text::{is_first_version, put_image};
 
 fn spell_head(page: &mut Page, harts: usize, kib: u32, entry: u32, line: LineSize)

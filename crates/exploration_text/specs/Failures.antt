@@ -3,7 +3,7 @@ use Rattle.std.specs.Prelude.{ℕ, zero, suc, ◌+◌, ◌==◌, List, [], ◌�
 use Rattle.elf_symbols.specs.Lookups.{nearest}
 use Rattle.elf_symbols.specs.Named.{Named}
 use Rattle.explorer.specs.declared.found.FoundFailure.{FoundFailure}
-use Rattle.flat_exploration.specs.declared.failure.Stop.{Stop}
+use Rattle.explorer.specs.Stop.{Stop}
 use Rattle.hart.specs.declared.state.Hart.{Hart}
 use Rattle.hart.specs.declared.status.Status.{Status}
 use Rattle.hart.specs.declared.status.Status.TheVariants.{Exited, Running, Stopped}

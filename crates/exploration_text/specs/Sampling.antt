@@ -2,7 +2,7 @@
 use Rattle.std.specs.Prelude.{ℕ, zero, suc, ◌+◌, List, [], ◌∷◌, ◌++◌, codes, decimal}
 use Rattle.exploration_text.specs.Text.{harts_text}
 use Rattle.explorer.specs.Ends.{outcomes_of}
-use Rattle.flat_exploration.specs.Outcomes.{Outcome}
+use Rattle.explorer.specs.FlatExplorationOutcomes.{Outcome}
 use Rattle.explorer.specs.declared.samples.sampled.Sampled.{Sampled}
 
 -- an end's number, how many runs came to it, and how each hart ended

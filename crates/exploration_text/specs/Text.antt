@@ -2,7 +2,7 @@
 use Rattle.std.specs.Prelude.{ℕ, zero, suc, ◌+◌, List, [], ◌∷◌, ◌++◌, Option, Some, None, codes, decimal}
 use Rattle.exploration_text.specs.Failures.{failures_part}
 use Rattle.explorer.specs.declared.exploration.Stuck.{Stuck}
-use Rattle.flat_model.specs.Shown.{HartEnd}
+use Rattle.explorer.specs.Shown.{HartEnd}
 use Rattle.hart_ends.specs.Ends.{hart_text}
 use Rattle.state_search.specs.declared.findings.Extent.{Extent}
 use Rattle.state_search.specs.declared.findings.Extent.TheVariants.{Complete, LimitMet, OutOfMemory}

@@ -5,7 +5,7 @@ use Rattle.exploration_text.specs.declared.wording.WordName.{WordName}
 use Rattle.exploration_text.specs.declared.wording.WordName.TheVariants.{Address, Symbol}
 use Rattle.exploration_text.specs.Failures.{failure_lines}
 use Rattle.exploration_text.specs.Text.{harts_text, last_line, stuck_line}
-use Rattle.flat_exploration.specs.Outcomes.{Outcome}
+use Rattle.explorer.specs.FlatExplorationOutcomes.{Outcome}
 use Rattle.text_fields.specs.Fields.{word}
 use Rattle.explorer.specs.declared.exploration.Exploration.{Exploration}
 use Rattle.explorer.specs.Ends.{outcomes_of}

@@ -7,7 +7,7 @@ ghost use Rattle.order_text.specs.Naming.{place_behind};
 use crate::spelling::spell_number;
 use elf_symbols::Symbols;
 use explorer::FoundFailure;
-use flat_exploration::Stop;
+use explorer::flat_exploration::Stop;
 use hart::{Hart, Status};
 use order_text::spell_place;
 use rv32_exec::stop;

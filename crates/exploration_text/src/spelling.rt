@@ -2,11 +2,11 @@
 ghost use Rattle.std.specs.Prelude.{◌≡◌, ◌++◌, IfOk, OnOk, decimal};
 ghost use Rattle.exploration_text.specs.Text as text;
 ghost use Rattle.explorer.specs.Ranks.{result_of};
-ghost use Rattle.flat_model.specs.Shown.{told};
+ghost use Rattle.explorer.specs.Shown.{told};
 
 use crate::failures::spell_count;
 use explorer::Stuck;
-use flat_model::HartResult;
+use explorer::flat_model::HartResult;
 use hart_ends::put_end;
 use itoa::Buffer;
 use state_search::Extent;

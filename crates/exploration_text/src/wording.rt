@@ -6,8 +6,8 @@ ghost use Rattle.explorer.specs.Ends.{outcome_of, outcome_with, outcomes_of};
 use crate::failures::spell_failures;
 use crate::spelling::{spell_extent, spell_harts, spell_number, spell_stuck};
 use elf_symbols::Symbols;
+use explorer::flat_model::HartResult;
 use explorer::{Exploration, Found};
-use flat_model::HartResult;
 use std::alloc::{AllocError, Global};
 use text_fields::word_text;
 

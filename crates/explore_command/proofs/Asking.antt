@@ -13,7 +13,7 @@ use Rattle.explore_command.proofs.Faults.{first_left, first_told}
 use Rattle.explore_command.specs.Exploring.{IsExploreFault, IsFirstFault, LeavesPart}
 use Rattle.explore_command.specs.Asking.{HasProgram, HasProgramBy, HasUnshown, IsAskingFault}
 use Rattle.explore_command.specs.Targets.{AreAddressesOf, IsUnplaced, IsUnshown}
-use Rattle.performed_words.specs.Words.{CanShowEach}
+use Rattle.explorer.specs.Words.{CanShowEach}
 
 module _ (held first : Contents) (explore : Explore) (words : List Name) (image : Initial) (symbols : List Named) (same : first ≡ held)
     (file : HoldsNamedImage first explore.raw explore.image.now explore.machine.memory image symbols) where

@@ -25,7 +25,7 @@ use Rattle.hart.specs.declared.status.Status.{Status}
 use Rattle.hart.specs.declared.status.Status.TheVariants as status
 use Rattle.machine_model.specs.Views.{Node}
 use Rattle.machine_types.specs.declared.config.Config.{Config}
-use Rattle.schedules.specs.Schedules.{led}
+use Rattle.explorer.specs.Schedules.{led}
 use Rattle.state_search.specs.declared.findings.Extent.{Extent}
 use Rattle.state_search.specs.declared.findings.Extent.TheVariants.{Complete, LimitMet, OutOfMemory}
 

@@ -26,8 +26,8 @@ use Rattle.trace_recorder.specs.declared.operation.OpId.{OpId}
 use Rattle.trace_text.specs.TraceHeads.{IsTraceHead}
 use Rattle.trace_text.specs.TraceLimits.{IsHart, IsLoaded, IsLogged, IsOperation, IsRetired, IsStatus, IsTrace}
 use Rattle.trace_text.specs.Traces.{head_of}
-use Rattle.witnesses.specs.declared.witness.Witness.{Witness}
-use Rattle.witnesses.specs.Witnesses.{IsWitness}
+use Rattle.architecture_outcomes.specs.Witness.{Witness}
+use Rattle.architecture_outcomes.specs.Witnesses.{IsWitness}
 
 all_more : {X : Type 0} (P Q : X → Type 0) → ((x : X) → P x → Q x) → (xs : List X) → AllByRecursion P xs → AllByRecursion Q xs
 all_more P Q more [] all = tt

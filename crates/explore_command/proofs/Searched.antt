@@ -24,7 +24,7 @@ use Rattle.explore_command.proofs.Shown.{judged_of, told_of}
 use Rattle.explore_command.specs.Asking.{HasProgram}
 use Rattle.explore_command.specs.Targets.{names_of}
 use Rattle.state_search.specs.declared.findings.Extent.TheVariants as extent
-use Rattle.window_search.specs.declared.left_out.Reach.TheVariants as reach
+use Rattle.architecture_outcomes.specs.TheVariants as reach
 use Rattle.std.proofs.Common.{◌≤◌, All, Err, IfOk, Ok, Result}
 use Rattle.std.specs.Prelude.{min}
 use Rattle.std.specs.List.Sorted.{IsStrictlySortedBy}
@@ -34,8 +34,8 @@ use Rattle.architecture_outcomes.specs.Outcomes.{IsDecided, IsWitnessed, TellsEa
 use Rattle.architecture_outcomes.specs.Visited.{AreMachineStates, TellsEnd}
 use Rattle.explorer.specs.Ranks.{outcome_cmp}
 use Rattle.flat_model.specs.Flat.{Flat}
-use Rattle.window_model.specs.Complete.{TellsEachAllowed}
-use Rattle.window_search.specs.Openings.{NeverOpens}
+use Rattle.architecture_outcomes.specs.Complete.{TellsEachAllowed}
+use Rattle.architecture_outcomes.specs.Openings.{NeverOpens}
 
 module _ (held : Contents) (wanted : Explore) (words : List Name) (window : ℕ) (config : Config) (image : Initial) (addresses : List ℕ) (names : List WordName) (found : Architecture)
     (inside : IsInside wanted.machine) (config_is : config ≡ config_named wanted.machine inside) (program : HasProgram held wanted words image addresses) (named : names ≡ names_of words) (is : IsFoundUnder image config addresses window wanted.states found) where

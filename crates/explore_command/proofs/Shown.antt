@@ -28,7 +28,7 @@ use Rattle.explore_command.specs.Targets.{AreAddressesOf, IsTarget, IsUnplaced, 
 use Rattle.script_commands.specs.Named.{HoldsNamedImage}
 use Rattle.state_search.specs.declared.findings.Extent.TheVariants as extent
 use Rattle.explorer.specs.Ends.{outcome_of}
-use Rattle.performed_words.specs.Words.{CanShow}
+use Rattle.explorer.specs.Words.{CanShow}
 
 -- ---- what is allowed
 

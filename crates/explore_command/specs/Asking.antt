@@ -9,7 +9,7 @@ use Rattle.elf_symbols.specs.Named.{Named}
 use Rattle.script_commands.specs.Named.{HoldsNamedImage}
 use Rattle.explore_command.specs.Exploring.{IsFirstFault}
 use Rattle.explore_command.specs.Targets.{AreAddressesOf, ComesBehindShown, IsUnplaced}
-use Rattle.performed_words.specs.Words.{CanShowEach}
+use Rattle.explorer.specs.Words.{CanShowEach}
 
 -- the image is that in the file, and the words lie where its symbols say, each an aligned word of memory
 pub record HasProgram (held : Contents) (explore : Explore) (words : List Name) (image : Initial) (addresses : List ℕ) : Type 0 where

@@ -13,7 +13,7 @@ use Rattle.explorer.specs.Outcomes.{CanAlwaysEnd}
 use Rattle.flat_model.specs.Shown.{results}
 use Rattle.machine_types.specs.declared.config.Config.{Config}
 use Rattle.machine_types.specs.declared.event.Event.{Event}
-use Rattle.schedules.specs.Schedules.{led}
+use Rattle.explorer.specs.Schedules.{led}
 
 -- whatever events come in whatever order, no hart has stopped, be the others at their ends or not
 abbrev pub NoneStops : Initial → Config → Type 0

@@ -28,10 +28,10 @@ use Rattle.explore_command.specs.Targets.{names_of}
 use Rattle.state_search.specs.declared.findings.Extent.{Extent}
 use Rattle.state_search.specs.declared.findings.Extent.TheVariants.{Complete, LimitMet}
 use Rattle.state_search.specs.declared.findings.Extent.TheVariants as extent
-use Rattle.window_model.specs.Complete.{TellsEachAllowed}
-use Rattle.window_search.specs.Openings.{NeverOpens}
-use Rattle.window_search.specs.declared.left_out.Reach.{Reach}
-use Rattle.window_search.specs.declared.left_out.Reach.TheVariants as reach
+use Rattle.architecture_outcomes.specs.Complete.{TellsEachAllowed}
+use Rattle.architecture_outcomes.specs.Openings.{NeverOpens}
+use Rattle.architecture_outcomes.specs.Reach.{Reach}
+use Rattle.architecture_outcomes.specs.TheVariants as reach
 use Rattle.explorer.specs.Ranks.{outcome_cmp}
 
 -- what is said to show an outcome does; where the machine's own search is complete, each of its outcomes is told as one of the machine, and each other as the model's alone;

@@ -5,7 +5,7 @@ use Rattle.std.proofs.lemmas.List.{take_all}
 use Rattle.flat_exploration.specs.Outcomes.{HasDrained, HasEnded, none_waits_in}
 use Rattle.flat_exploration.specs.Laws.{none_runs}
 use Rattle.hart.specs.Run.{is_running}
-use Rattle.machine_model.specs.Views.{Node, State, no_node, node_at}
+use Rattle.flat_model.specs.Views.{Node, State, no_node, node_at}
 use Rattle.store_buffer.specs.Groups.{is_empty}
 
 -- of the first of them none runs, and none has a store that waits

@@ -5,9 +5,9 @@ use Rattle.std.specs.List.{last_or}
 use Rattle.std.proofs.lemmas.List.{ext_get_or, length-drop, take_all}
 use Rattle.elf_loader.specs.Size.{base}
 use Rattle.flat_model.specs.Flat.{byte_in}
-use Rattle.memory_model.specs.declared.operation.Operation.{Operation}
-use Rattle.memory_model.specs.Operations.{stores_to, written_at}
-use Rattle.memory_model.specs.Order.{byte_from, last_of, last_write}
+use Rattle.flat_model.specs.Operation.{Operation}
+use Rattle.flat_model.specs.Operations.{stores_to, written_at}
+use Rattle.flat_model.specs.Order.{byte_from, last_of, last_write}
 
 -- ---- while an operation is performed
 

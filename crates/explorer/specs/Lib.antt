@@ -8,3 +8,8 @@ pub mod Visited
 pub mod Told
 pub mod Failures
 pub mod Sampled
+pub use Rattle.schedules.specs.Schedules
+pub use Rattle.flat_exploration.specs.Outcomes as FlatExplorationOutcomes
+pub use Rattle.flat_exploration.specs.declared.failure.Stop
+pub use Rattle.flat_model.specs.Shown
+pub use Rattle.performed_words.specs.Words

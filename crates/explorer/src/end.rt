@@ -4,9 +4,9 @@ ghost use Rattle.performed_words.specs.Words.{are_aligned};
 ghost use Rattle.explorer.specs.Ends.{ComesTo, outcome_with};
 
 use crate::final_words::has_ended;
-use coherent_machine::Machine;
 use flat_model::HartResult;
 use performed_words::words_of;
+use schedules::coherent_machine::Machine;
 use schedules::{Goal, HartResults};
 use std::alloc::{AllocError, Global};
 

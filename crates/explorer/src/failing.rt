@@ -2,10 +2,10 @@
 ghost use Rattle.std.specs.Prelude.{◌≡◌, true};
 ghost use Rattle.flat_exploration.specs.Failures.{HasStopped, machine_stops};
 
-use coherent_machine::{Machine, Views};
 use flat_exploration::Failure;
 use hart::Status;
 use schedules::Goal;
+use schedules::coherent_machine::{Machine, Views};
 use std::alloc::AllocError;
 
 /// The failure's hart has stopped.

@@ -7,13 +7,13 @@ use Rattle.std.proofs.lemmas.List.Elements.{All-weaker}
 use Rattle.architecture_outcomes.specs.Outcomes.{IsDecided, IsWitnessed, TellsEachEnd, end_of, ends_of}
 use Rattle.architecture_outcomes.specs.declared.architecture.Architecture.{Architecture}
 use Rattle.elf_loader.specs.Image.{Initial}
-use Rattle.explorer.specs.Ranks.{outcome_cmp}
-use Rattle.performed_words.specs.Words.{CanShow, CanShowEach}
+use Rattle.exploration_text.specs.Ranks.{outcome_cmp}
+use Rattle.architecture_outcomes.specs.Words.{CanShow, CanShowEach}
 use Rattle.fence_audit.specs.Answers.{IsSearchOf}
 use Rattle.machine_types.specs.declared.config.Config.{Config}
 use Rattle.state_search.specs.declared.findings.Extent.TheVariants.{Complete}
-use Rattle.window_model.specs.Complete.{TellsEachAllowed}
-use Rattle.window_search.specs.declared.left_out.Reach.TheVariants.{LimitMet, OutOfMemory, Whole}
+use Rattle.architecture_outcomes.specs.Complete.{TellsEachAllowed}
+use Rattle.architecture_outcomes.specs.TheVariants.{LimitMet, OutOfMemory, Whole}
 
 -- words that can be shown of an image can be shown of one of the same size
 pub shows_same : (image made : Initial) (addresses : List ℕ) → length made.bytes ≡ length image.bytes → CanShowEach image addresses → CanShowEach made addresses

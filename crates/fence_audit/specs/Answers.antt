@@ -7,15 +7,15 @@ use Rattle.architecture_outcomes.specs.Outcomes.{IsDecided, IsWitnessed, TellsEa
 use Rattle.architecture_outcomes.specs.declared.architecture.Architecture.{Architecture}
 use Rattle.architecture_outcomes.specs.declared.outcome.Outcome.{Outcome}
 use Rattle.elf_loader.specs.Image.{Initial}
-use Rattle.explorer.specs.Ranks.{outcome_cmp}
+use Rattle.exploration_text.specs.Ranks.{outcome_cmp}
 use Rattle.fence_audit.specs.declared.answers.Answer.{Answer}
 use Rattle.fence_audit.specs.declared.answers.Answer.TheVariants.{Bounded, Fewer, Other, Same}
 use Rattle.machine_types.specs.declared.config.Config.{Config}
 use Rattle.state_search.specs.declared.findings.Extent.{Extent}
 use Rattle.state_search.specs.declared.findings.Extent.TheVariants.{Complete}
-use Rattle.window_model.specs.Complete.{TellsEachAllowed}
-use Rattle.window_search.specs.declared.left_out.Reach.{Reach}
-use Rattle.window_search.specs.declared.left_out.Reach.TheVariants.{LimitMet, OutOfMemory, Whole}
+use Rattle.architecture_outcomes.specs.Complete.{TellsEachAllowed}
+use Rattle.architecture_outcomes.specs.Reach.{Reach}
+use Rattle.architecture_outcomes.specs.TheVariants.{LimitMet, OutOfMemory, Whole}
 
 -- ---- a search
 

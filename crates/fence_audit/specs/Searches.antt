@@ -5,7 +5,7 @@ use Rattle.architecture_outcomes.specs.declared.outcome.Outcome.{Outcome}
 use Rattle.elf_loader.specs.Image.{HasWord, Initial}
 use Rattle.fence_audit.specs.Answers.{IsSearchOf, answer_of}
 use Rattle.fence_audit.specs.declared.answers.Answer.{Answer}
-use Rattle.performed_words.specs.Words.{CanShowEach}
+use Rattle.architecture_outcomes.specs.Words.{CanShowEach}
 use Rattle.fence_audit.specs.declared.searches.Asking.{Asking}
 use Rattle.fence_audit.specs.declared.searches.Question.{Question}
 use Rattle.fence_audit.specs.declared.searches.Search.{Search}

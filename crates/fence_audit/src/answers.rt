@@ -2,9 +2,9 @@
 ghost use Rattle.std.specs.Prelude.{◌≡◌};
 ghost use Rattle.fence_audit.specs.Answers as spec;
 
+use architecture_outcomes::window_search::Reach;
 use architecture_outcomes::{Architecture, Outcome};
 use state_search::Extent;
-use window_search::Reach;
 
 /// What a search of a changed program told, beside what a whole one of the program as it is told.
 #[derive(Clone, Copy, Debug, PartialEq, Eq)]

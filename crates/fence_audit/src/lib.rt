@@ -6,8 +6,10 @@ mod answers;
 mod auditing;
 mod reducing;
 mod searches;
+mod spelling;
 mod weighing;
 
 pub use answers::{Answer, is_whole};
 pub use auditing::{Audit, audit_program};
 pub use searches::{Question, Search, search_in};
+pub use spelling::text_of;

@@ -7,7 +7,7 @@ ghost use Rattle.image_orderings.specs.Replaced.{patched};
 use crate::answers::{Answer, answer_of};
 use architecture_outcomes::{Architecture, Outcome, explore_architecture};
 use elf_loader::Image;
-use explorer::Exploring;
+use exploration_text::explorer::Exploring;
 use image_orderings::{Patch, patched};
 use machine_types::Config;
 use state_search::Watch;

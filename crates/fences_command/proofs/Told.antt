@@ -11,7 +11,7 @@ use Rattle.command_settings.specs.declared.wanted.Fences.{Fences}
 use Rattle.elf_loader.specs.Image.{Initial}
 use Rattle.elf_symbols.specs.Named.{Named}
 use Rattle.fence_audit.specs.Auditing.{IsAudit}
-use Rattle.fence_text.specs.Text.{audit_text}
+use Rattle.fence_audit.specs.Text.{audit_text}
 use Rattle.fence_audit.specs.declared.auditing.Audit.{Audit}
 use Rattle.fences_command.specs.Fencing.{IsAuditCutOff, IsAuditTold, IsFencesFault, IsOfFile}
 use Rattle.machine_types.specs.declared.config.Config.{Config}

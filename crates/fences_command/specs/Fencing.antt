@@ -10,7 +10,7 @@ use Rattle.command_settings.specs.declared.wanted.Fences.{Fences}
 use Rattle.elf_loader.specs.Image.{Initial}
 use Rattle.elf_symbols.specs.Named.{Named}
 use Rattle.fence_audit.specs.Auditing.{IsAudit}
-use Rattle.fence_text.specs.Text.{audit_text}
+use Rattle.fence_audit.specs.Text.{audit_text}
 use Rattle.fence_audit.specs.declared.auditing.Audit.{Audit}
 use Rattle.script_commands.specs.Named.{HoldsNamedImage}
 use Rattle.text_fields.specs.Writing.{Begins}

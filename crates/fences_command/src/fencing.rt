@@ -5,7 +5,7 @@ ghost use Rattle.std.specs.Io.KnownBytes.{Appends};
 ghost use Rattle.command_files.specs.Faults.{LeavesAtFault};
 ghost use Rattle.command_files.specs.Sizes.{IsOutside};
 ghost use Rattle.fence_audit.specs.Auditing.{IsAudit};
-ghost use Rattle.fence_text.specs.Text.{audit_text};
+ghost use Rattle.fence_audit.specs.Text.{audit_text};
 ghost use Rattle.fences_command.specs.Fencing.{IsAuditCutOff, IsAuditTold, IsFencesFault, IsOfFile};
 ghost use Rattle.text_fields.specs.Writing.{Begins};
 
@@ -13,8 +13,7 @@ use command_files::{Fault, Files, named_config, out_of_limits};
 use command_settings::Fences;
 use elf_loader::Image;
 use elf_symbols::Symbols;
-use fence_audit::{Audit, Question, audit_program};
-use fence_text::text_of;
+use fence_audit::{Audit, Question, audit_program, text_of};
 use machine_types::Config;
 use progress_line::{Progress, Stage};
 use script_commands::named_image_in;

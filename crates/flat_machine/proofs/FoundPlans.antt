@@ -4,7 +4,7 @@ use Rattle.std.proofs.Common.{sym, ◌∙◌, ap, subst}
 use Rattle.hart.specs.declared.state.Hart.{Hart}
 use Rattle.flat_model.specs.Flat.{FlatNode}
 use Rattle.flat_model.specs.Steps.{plan_access, plan_unless}
-use Rattle.machine_model.specs.Steps.{Fetched}
+use Rattle.word_accesses.specs.Steps.{Fetched}
 use Rattle.machine_types.specs.declared.model.MemoryModel.{MemoryModel}
 use Rattle.rv32_decode.specs.declared.instruction.Instr.{Instr}
 use Rattle.rv32_decode.specs.declared.instruction.Instr.TheVariants as instr

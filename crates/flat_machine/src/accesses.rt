@@ -11,10 +11,10 @@ use crate::node::Node;
 use crate::plan::Plan;
 use amo_unit::combine;
 use hart::Retired;
-use machine_model::Deed;
 use machine_types::{MemoryModel, Outcome};
 use rv32_decode::{AmoOp, Instr};
 use rv32_exec::{Call, Width};
+use word_accesses::machine_model::Deed;
 use word_accesses::{
     marks_of, orders_after_stores, read_from, store_of, waits_for_stores, word_of, write_waits,
 };

@@ -2,16 +2,16 @@
 ghost use Rattle.std.specs.Prelude.{◌≡◌, ◌<◌, None, Some, OnOk, length};
 ghost use Rattle.flat_machine.specs.States.{flat_of, unlisted};
 ghost use Rattle.flat_model.specs.Changing.{does, with_reservation, writes_word};
-ghost use Rattle.machine_model.specs.Changing.{put_behind};
-ghost use Rattle.machine_model.specs.Words.{bytes_of_word};
-ghost use Rattle.machine_model.specs.declared.act.Deed.TheVariants as deed;
+ghost use Rattle.word_accesses.specs.Changing.{put_behind};
+ghost use Rattle.word_accesses.specs.Words.{bytes_of_word};
+ghost use Rattle.word_accesses.specs.TheVariants as deed;
 ghost use Rattle.store_buffer.specs.ByteMask.{marks_of_access};
 
 use crate::state::State;
-use machine_model::Deed;
 use machine_types::MemoryModel;
 use std::alloc::{AllocError, Global};
 use store_buffer::{Store, StoreBuffer};
+use word_accesses::machine_model::Deed;
 
 // A store waits; under Ztso a group holds one word. A buffer in which it doesn't fit is an error.
 fn put_store(buffer: &mut StoreBuffer, model: MemoryModel, store: &Store) -> Result<(), AllocError>

@@ -4,9 +4,9 @@ ghost use Rattle.flat_exploration.proofs.Effects.{address_of};
 ghost use Rattle.flat_machine.specs.Plans.{meant};
 
 use hart::Retired;
-use machine_model::Deed;
 use machine_types::Outcome;
 use rv32_decode::Instr;
+use word_accesses::machine_model::Deed;
 
 /// What an event of the flat machine comes to, before anything changes.
 #[derive(Clone, Copy)]

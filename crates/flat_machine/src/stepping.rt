@@ -18,10 +18,10 @@ use crate::node::Node;
 use crate::plan::Plan;
 use elf_loader::Image;
 use hart::can_fetch;
-use machine_model::Deed;
 use machine_types::{MemoryModel, Outcome};
 use rv32_decode::decode;
 use rv32_exec::{Action, plan, stop};
+use word_accesses::machine_model::Deed;
 
 /// What an instruction of a running hart comes to, where memory has `size` bytes: its stop, or its access.
 fn plan_instr(

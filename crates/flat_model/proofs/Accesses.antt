@@ -18,7 +18,7 @@ use Rattle.machine_model.specs.Laws.{ReservedIsTrunk}
 use Rattle.machine_model.specs.Ready.{shape_of}
 use Rattle.machine_model.specs.Views.{State, line_size, node_at}
 use Rattle.machine_types.specs.declared.config.Config.{Config}
-use Rattle.reservations.specs.Reservation.{lies_in, without_line}
+use Rattle.machine_model.specs.Reservation.{lies_in, without_line}
 use Rattle.tl_types.specs.Line.{length_of, line_of}
 use Rattle.tl_types.specs.declared.line.LineSize.{LineSize}
 use Rattle.tl_types.specs.declared.line.LineSize.TheVariants.{Bytes16, Bytes64}

@@ -10,10 +10,10 @@ use Rattle.client_cache.specs.declared.answers.Evict.TheVariants as evict
 use Rattle.client_cache.specs.declared.answers.Probed.{Probed}
 use Rattle.client_cache.specs.declared.answers.Probed.TheVariants as probe
 use Rattle.client_cache.specs.declared.held.Held.TheVariants.{Trunk}
-use Rattle.directory.specs.Directory.{acquired}
-use Rattle.directory.specs.declared.answer.Acquired.{Acquired}
-use Rattle.directory.specs.declared.answer.Acquired.TheVariants.{Handled, Busy}
-use Rattle.elf_loader.specs.Image.{Initial, byte_at as image_byte}
+use Rattle.machine_model.specs.Directory.{acquired}
+use Rattle.machine_model.specs.Acquired.{Acquired}
+use Rattle.machine_model.specs.AcquiredVariants.{Handled, Busy}
+use Rattle.machine_model.specs.Image.{Initial, byte_at as image_byte}
 use Rattle.flat_model.specs.Changing as flat
 use Rattle.flat_model.specs.Changing.{accessed}
 use Rattle.flat_model.specs.declared.event.FlatEvent.{FlatEvent}
@@ -65,19 +65,19 @@ use Rattle.machine_model.proofs.order.Moves.{OrderKept, done_same, drained_moves
 use Rattle.machine_model.proofs.order.Traces.{done, operations_on}
 use Rattle.machine_model.proofs.runs.Runs.{AllStand}
 use Rattle.machine_types.specs.declared.model.MemoryModel.{MemoryModel}
-use Rattle.memory_model.specs.Order.{last_write}
-use Rattle.memory_model.specs.Traces.{instructions, last_performed, operations_at}
-use Rattle.reservations.specs.Reservation.{is_valid}
+use Rattle.machine_model.specs.Order.{last_write}
+use Rattle.machine_model.specs.Traces.{instructions, last_performed, operations_at}
+use Rattle.machine_model.specs.Reservation.{is_valid}
 use Rattle.rv32_decode.specs.declared.instruction.Instr.{Instr}
-use Rattle.rv32_exec.specs.Meaning.{Access, DoesSc, DoesAmo, access_of}
+use Rattle.hart.specs.Meaning.{Access, DoesSc, DoesAmo, access_of}
 use Rattle.store_buffer.specs.ByteMask.{is_marked}
 use Rattle.store_buffer.specs.Entry.{entry_of}
 use Rattle.store_buffer.specs.Groups.{Groups, oldest}
-use Rattle.tilelink_channels.specs.Queues.{front_of, queue_of}
+use Rattle.machine_model.specs.Queues.{front_of, queue_of}
 use Rattle.tl_types.specs.declared.message.Body.{Body}
 use Rattle.tl_types.specs.declared.message.Body.TheVariants.{AcquireBlock, ProbeBlock, ProbeAck, ProbeAckData, Release, ReleaseData, Grant, GrantData, ReleaseAck, GrantAck}
 use Rattle.tl_types.specs.declared.message.Msg.{Msg}
-use Rattle.trace_recorder.specs.History.{History}
+use Rattle.machine_model.specs.History.{History}
 
 -- what holds of a machine's state
 pub record Base (s : State) : Type 0 where

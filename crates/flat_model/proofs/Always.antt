@@ -3,7 +3,7 @@ use Rattle.std.proofs.Common.{◌≡◌, ℕ, suc, ◌<◌, List, [], ◌∷◌,
 use Rattle.std.specs.Prelude.{map, nat_lt}
 use Rattle.std.proofs.lemmas.Bool.{and_parts, ltb-true}
 use Rattle.std.proofs.lemmas.List.FromFn.{get_or-map-range_with_len, length-map-range_with_len}
-use Rattle.elf_loader.specs.Image.{Initial, IsImage}
+use Rattle.machine_model.specs.Image.{Initial, IsImage}
 use Rattle.flat_model.specs.declared.event.FlatEvent.{FlatEvent}
 use Rattle.flat_model.specs.Events as flat_events
 use Rattle.flat_model.specs.Flat as of_flat
@@ -29,7 +29,7 @@ use Rattle.machine_model.proofs.order.Events.{fresh, order_kept}
 use Rattle.machine_model.proofs.ready.Always.{after_one_more, ready_always, sound_always}
 use Rattle.machine_model.proofs.runs.Runs.{runs_always}
 use Rattle.machine_model.proofs.coherence.WorldSlots.{reserved_is_trunk_always}
-use Rattle.trace_recorder.specs.History.{History}
+use Rattle.machine_model.specs.History.{History}
 
 -- ---- one event
 

@@ -3,7 +3,7 @@ use Rattle.std.proofs.Common.{◌≡◌, ℕ, zero, suc, ◌<◌, List, [], ◌�
 use Rattle.std.specs.Prelude.{is_none, slice_set}
 use Rattle.std.proofs.lemmas.Bool.{false≢true, and_parts, lt-ltb}
 use Rattle.std.proofs.lemmas.List.{get_or-set_same, length-set, set-get_or, set-set}
-use Rattle.elf_loader.specs.Image.{Initial, word_at}
+use Rattle.machine_model.specs.Image.{Initial, word_at}
 use Rattle.flat_model.specs.Changing.{next_place}
 use Rattle.flat_model.specs.declared.event.FlatEvent.{FlatEvent}
 use Rattle.flat_model.specs.declared.event.FlatEvent.TheVariants as event
@@ -29,8 +29,8 @@ use Rattle.machine_model.specs.Views.{State}
 use Rattle.machine_types.specs.declared.model.MemoryModel.{MemoryModel}
 use Rattle.rv32_decode.specs.Rows.{decoded}
 use Rattle.rv32_decode.specs.declared.instruction.Instr.{Instr}
-use Rattle.rv32_exec.specs.Meaning.{Private, access_of, stop_of}
-use Rattle.trace_recorder.specs.History.{History, with_entry}
+use Rattle.hart.specs.Meaning.{Private, access_of, stop_of}
+use Rattle.machine_model.specs.History.{History, with_entry}
 
 -- ---- one step of a private instruction
 

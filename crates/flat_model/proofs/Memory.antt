@@ -7,8 +7,8 @@ use Rattle.std.proofs.lemmas.List.{get_or-set_other, get_or-set_same, length-set
 use Rattle.client_cache.specs.Cache.{copy_at}
 use Rattle.client_cache.specs.Held.{bytes_in}
 use Rattle.client_cache.specs.declared.held.Held.{Held}
-use Rattle.elf_loader.specs.Image.{Initial, end_of}
-use Rattle.elf_loader.specs.Size.{base}
+use Rattle.machine_model.specs.Image.{Initial, end_of}
+use Rattle.machine_model.specs.Size.{base}
 use Rattle.flat_model.specs.Flat.{Flat, byte_in, with_place, with_word}
 use Rattle.flat_model.specs.Flat as of_flat
 use Rattle.flat_model.specs.Shown.{HoldsPerformed}
@@ -25,13 +25,13 @@ use Rattle.machine_model.proofs.order.Bytes.{place_at}
 use Rattle.machine_model.proofs.order.Joint.{coherent_holds}
 use Rattle.machine_model.proofs.order.Last.{bytes_by}
 use Rattle.machine_model.proofs.order.Returns.{AllHold}
-use Rattle.memory_model.specs.Operations.{byte_of_number as number_byte}
-use Rattle.memory_model.specs.Traces.{last_performed}
+use Rattle.machine_model.specs.Operations.{byte_of_number as number_byte}
+use Rattle.machine_model.specs.Traces.{last_performed}
 use Rattle.store_buffer.specs.ByteMask.{each_place, is_marked, marks_of_access}
 use Rattle.tl_types.specs.Line.{bytes_of, length_of, line_of, size_of}
 use Rattle.tl_types.specs.declared.line.LineSize.{LineSize}
 use Rattle.tl_types.specs.declared.line.LineSize.TheVariants.{Bytes16, Bytes64}
-use Rattle.trace_recorder.specs.History.{History}
+use Rattle.machine_model.specs.History.{History}
 
 -- ---- a write of a word
 

@@ -26,13 +26,13 @@ use Rattle.client_cache.specs.declared.answers.Want.TheVariants as want
 use Rattle.client_cache.specs.declared.held.Held.{Held}
 use Rattle.client_cache.specs.declared.held.Held.TheVariants.{Trunk}
 use Rattle.client_cache.specs.declared.shape.Shape.{Shape}
-use Rattle.directory.specs.Directory.{acquired, probe_acked, released}
-use Rattle.directory.specs.declared.answer.Acquired.{Acquired}
-use Rattle.directory.specs.declared.answer.Acquired.TheVariants.{Handled, Busy}
-use Rattle.directory.specs.declared.answer.Grant.{Grant as Granting}
-use Rattle.directory.specs.declared.answer.Sent.{Sent}
-use Rattle.directory.specs.declared.answer.Sent.TheVariants.{Probes, Granting as Grants}
-use Rattle.elf_loader.specs.Image.{Initial}
+use Rattle.machine_model.specs.Directory.{acquired, probe_acked, released}
+use Rattle.machine_model.specs.Acquired.{Acquired}
+use Rattle.machine_model.specs.AcquiredVariants.{Handled, Busy}
+use Rattle.machine_model.specs.Grant.{Grant as Granting}
+use Rattle.machine_model.specs.Sent.{Sent}
+use Rattle.machine_model.specs.SentVariants.{Probes, Granting as Grants}
+use Rattle.machine_model.specs.Image.{Initial}
 use Rattle.machine_model.specs.declared.act.Act.{Act}
 use Rattle.machine_model.specs.declared.act.Act.TheVariants as act
 use Rattle.machine_model.specs.declared.act.Deed.{Deed}

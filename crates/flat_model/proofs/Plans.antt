@@ -8,7 +8,7 @@ use Rattle.client_cache.specs.declared.answers.Want.{Want}
 use Rattle.client_cache.specs.declared.answers.Want.TheVariants as want
 use Rattle.client_cache.specs.declared.held.Held.{Held}
 use Rattle.client_cache.specs.declared.held.Held.TheVariants.{Branch, Trunk}
-use Rattle.elf_loader.specs.Image.{Initial, word_at}
+use Rattle.machine_model.specs.Image.{Initial, word_at}
 use Rattle.flat_model.specs.Flat.{FlatNode}
 use Rattle.flat_model.specs.Flat as of_flat
 use Rattle.flat_model.specs.Steps as flat
@@ -28,13 +28,13 @@ use Rattle.machine_model.specs.Words.{word_of, word_in, read_from, store_of}
 use Rattle.machine_model.proofs.order.Deeds.{Facts, facts}
 use Rattle.machine_types.specs.declared.model.MemoryModel.{MemoryModel}
 use Rattle.machine_types.specs.declared.model.MemoryModel.TheVariants.{Rvwmo, Ztso}
-use Rattle.memory_model.specs.declared.operation.Kind.TheVariants as kind
-use Rattle.memory_model.specs.Rules.{fences}
-use Rattle.reservations.specs.Reservation.{is_valid}
+use Rattle.machine_model.specs.TheVariants as kind
+use Rattle.machine_model.specs.Rules.{fences}
+use Rattle.machine_model.specs.Reservation.{is_valid}
 use Rattle.rv32_decode.specs.Rows.{decoded}
 use Rattle.rv32_decode.specs.declared.instruction.AmoOp.{AmoOp}
 use Rattle.rv32_decode.specs.declared.instruction.Instr.{Instr}
-use Rattle.rv32_exec.specs.Meaning.{Access, Private, Loads, Stores, DoesLr, DoesSc, DoesAmo, Fences, Calls, access_of}
+use Rattle.hart.specs.Meaning.{Access, Private, Loads, Stores, DoesLr, DoesSc, DoesAmo, Fences, Calls, access_of}
 use Rattle.store_buffer.specs.ByteMask.{covers, laid_over, marks_of_access}
 use Rattle.store_buffer.specs.Groups.{drainable, fits, forwarded, has, is_empty}
 use Rattle.tl_types.specs.Line.{line_of}

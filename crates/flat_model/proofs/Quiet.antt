@@ -9,12 +9,12 @@ use Rattle.client_cache.specs.declared.answers.Evict.{Evict}
 use Rattle.client_cache.specs.declared.answers.Evict.TheVariants as evict
 use Rattle.client_cache.specs.declared.answers.Probed.{Probed}
 use Rattle.client_cache.specs.declared.answers.Probed.TheVariants as probe
-use Rattle.directory.specs.Directory.{acquired, probe_acked, released}
-use Rattle.directory.specs.declared.answer.Acquired.{Acquired}
-use Rattle.directory.specs.declared.answer.Acquired.TheVariants.{Handled, Busy}
-use Rattle.directory.specs.declared.answer.Grant.{Grant as Granting}
-use Rattle.directory.specs.declared.answer.Sent.{Sent}
-use Rattle.directory.specs.declared.answer.Sent.TheVariants.{Probes, Granting as Grants}
+use Rattle.machine_model.specs.Directory.{acquired, probe_acked, released}
+use Rattle.machine_model.specs.Acquired.{Acquired}
+use Rattle.machine_model.specs.AcquiredVariants.{Handled, Busy}
+use Rattle.machine_model.specs.Grant.{Grant as Granting}
+use Rattle.machine_model.specs.Sent.{Sent}
+use Rattle.machine_model.specs.SentVariants.{Probes, Granting as Grants}
 use Rattle.flat_model.specs.Flat as of_flat
 use Rattle.flat_model.specs.Flat.{Flat}
 use Rattle.flat_model.specs.Shown.{IsShownBy}
@@ -23,7 +23,7 @@ use Rattle.machine_model.specs.Changing.{given_up, missed, sent_if_evicted}
 use Rattle.machine_model.specs.Deliveries.{delivered, handled, is_trunk, kept_reservation, on_grant, on_probe_ack, on_release, sent_any, sent_if_answered, sent_if_granted, sent_if_handled, sent_probes, taken, with_less, with_memory, with_notes}
 use Rattle.machine_model.specs.Views.{Node, State, line_size, node_at, place_of, sent, with_node}
 use Rattle.machine_model.proofs.Nodes.{node_other, node_same}
-use Rattle.reservations.specs.Reservation.{lies_in, without_line}
+use Rattle.machine_model.specs.Reservation.{lies_in, without_line}
 use Rattle.tl_types.specs.declared.line.LineData.{LineData}
 use Rattle.tl_types.specs.declared.line.LineSize.{LineSize}
 use Rattle.tl_types.specs.declared.message.Body.{Body}

@@ -25,7 +25,7 @@ use Rattle.rv32_decode.specs.declared.instruction.Instr.{Instr}
 use Rattle.store_buffer.specs.ByteMask.{marks_of_access}
 use Rattle.store_buffer.specs.Entry.{entry_of}
 use Rattle.store_buffer.specs.Groups.{Groups, after_seal, after_take, oldest}
-use Rattle.trace_recorder.specs.History.{History, entries_of, with_entry, with_performed, with_status}
+use Rattle.machine_model.specs.History.{History, entries_of, with_entry, with_performed, with_status}
 
 -- all that is shown but memory
 pub record Sees (s : State) (f : Flat) : Type 0 where

@@ -13,13 +13,13 @@ use Rattle.machine_model.specs.Changing.{put_behind, with_halt}
 use Rattle.machine_model.specs.Views.{shape_of_config}
 use Rattle.machine_model.specs.Words.{bytes_of_word}
 use Rattle.machine_types.specs.declared.model.MemoryModel.{MemoryModel}
-use Rattle.reservations.specs.Reservation.{without_line}
+use Rattle.machine_model.specs.Reservation.{without_line}
 use Rattle.rv32_decode.specs.declared.instruction.Instr.{Instr}
 use Rattle.store_buffer.specs.ByteMask.{marks_of_access}
 use Rattle.store_buffer.specs.Entry.{entry_of}
 use Rattle.store_buffer.specs.Groups.{Groups, after_seal, after_take, oldest}
 use Rattle.tl_types.specs.Line.{line_of}
-use Rattle.trace_recorder.specs.History.{entries_of, with_entry, with_performed, with_status}
+use Rattle.machine_model.specs.History.{entries_of, with_entry, with_performed, with_status}
 
 -- ---- the access of a line
 

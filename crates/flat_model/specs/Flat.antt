@@ -1,15 +1,15 @@
 -- What a flat machine is at a moment: harts with store buffers over one memory, and what is kept of the run.
 use Rattle.std.specs.Prelude.{ℕ, ◌+◌, ◌-◌, List, [], Option, None, map, slice_set, slice_index, slice_index_or, if◌then◌else◌, Bool}
 use Rattle.std.specs.List.{range_with_len}
-use Rattle.elf_loader.specs.Image.{Initial}
-use Rattle.elf_loader.specs.Size.{base}
+use Rattle.machine_model.specs.Image.{Initial}
+use Rattle.machine_model.specs.Size.{base}
 use Rattle.hart.specs.declared.state.Hart.{Hart}
 use Rattle.hart.specs.Run.{at_reset}
 use Rattle.machine_types.specs.declared.config.Config.{Config}
 use Rattle.store_buffer.specs.ByteMask.{each_place, is_marked}
 use Rattle.store_buffer.specs.Groups.{Groups, no_groups}
-use Rattle.trace_recorder.specs.History as history
-use Rattle.trace_recorder.specs.History.{History}
+use Rattle.machine_model.specs.History as history
+use Rattle.machine_model.specs.History.{History}
 
 -- what belongs to one hart: the numbers that it put out, its reserved word, and the stores that wait
 pub record FlatNode : Type 0 where

@@ -1,6 +1,6 @@
 -- The machine shows a program one flat memory behind store buffers.
 use Rattle.std.specs.Prelude.{◌≡◌, List}
-use Rattle.elf_loader.specs.Image.{Initial}
+use Rattle.machine_model.specs.Image.{Initial}
 use Rattle.flat_model.specs.declared.event.FlatEvent.{FlatEvent}
 use Rattle.flat_model.specs.Events.{after_events, verdict}
 use Rattle.flat_model.specs.Flat.{Flat, opening}

@@ -1,7 +1,7 @@
 -- Small plays of the flat machine: which reservations an access ends, when a store conditional fails, and what a waiting store shows.
 use Rattle.std.specs.Prelude.{ℕ, ◌≡◌, refl, List, [], ◌∷◌, Option, Some, None, IsTrue, slice_index}
-use Rattle.elf_loader.specs.Image.{Initial}
-use Rattle.elf_loader.specs.Size.{base}
+use Rattle.machine_model.specs.Image.{Initial}
+use Rattle.machine_model.specs.Size.{base}
 use Rattle.flat_model.specs.declared.event.FlatEvent.{FlatEvent}
 use Rattle.flat_model.specs.declared.event.FlatEvent.TheVariants.{Step, Drain, Fail}
 use Rattle.flat_model.specs.Events.{IsBad, Keeps, after_events, verdict}
@@ -10,7 +10,7 @@ use Rattle.machine_types.specs.Config.{is_within_limits}
 use Rattle.machine_types.specs.declared.config.Config.{Config}
 use Rattle.machine_types.specs.declared.outcome.Outcome.TheVariants.{MustDrain, NoEntry}
 use Rattle.machine_model.specs.Words.{number_of_bytes}
-use Rattle.memory_model.specs.Examples.{bytes_of_words}
+use Rattle.machine_model.specs.Examples.{bytes_of_words}
 use Rattle.machine_types.specs.declared.model.MemoryModel.TheVariants.{Rvwmo}
 use Rattle.tl_types.specs.declared.line.LineSize.TheVariants.{Bytes16}
 

@@ -1,14 +1,14 @@
 -- When a flat machine shows what a machine of caches and messages does.
 use Rattle.std.specs.Prelude.{ℕ, ◌≡◌, ◌<◌, ◌≤◌, List, [], Some, length, map}
-use Rattle.elf_loader.specs.Image.{end_of}
-use Rattle.elf_loader.specs.Size.{base}
+use Rattle.machine_model.specs.Image.{end_of}
+use Rattle.machine_model.specs.Size.{base}
 use Rattle.flat_model.specs.Flat.{Flat, FlatNode, byte_in}
 use Rattle.flat_model.specs.Flat as flat
 use Rattle.flat_model.specs.declared.results.HartResult.{HartResult}
 use Rattle.hart.specs.declared.status.Status.{Status}
 use Rattle.machine_model.specs.Views.{Node, State, node_at}
-use Rattle.memory_model.specs.Traces.{last_performed}
-use Rattle.trace_recorder.specs.History.{History}
+use Rattle.machine_model.specs.Traces.{last_performed}
+use Rattle.machine_model.specs.History.{History}
 
 -- a hart's pc, registers, status, output and buffer are the same, and the machine's reservation is the flat one, or none
 pub record IsShownBy (n : Node) (m : FlatNode) : Type 0 where

@@ -1,7 +1,7 @@
 -- What a hart's next instruction comes to over one memory: each check in its order, and then what retires.
 -- RISC-V Unprivileged ISA 20191213: FENCE 2.7, ECALL 2.8, the ordering bits 8.1, LR and SC 8.2, AMOs 8.4, Ztso 23. The rules of the store buffer are this machine's own: what RVWMO asks of them is chapter 14.1.
 use Rattle.std.specs.Prelude.{ℕ, ◌%◌, Bool, true, false, ◌&&◌, not, ◌==◌, if◌then◌else◌, List, Option, Some, None, is_some}
-use Rattle.elf_loader.specs.Image.{Initial, word_at}
+use Rattle.machine_model.specs.Image.{Initial, word_at}
 use Rattle.flat_model.specs.Flat.{FlatNode, word_in}
 use Rattle.hart.specs.declared.retired.Retired.{Retired}
 use Rattle.hart.specs.Run.{is_running, next_stop}
@@ -12,14 +12,14 @@ use Rattle.machine_types.specs.declared.outcome.Outcome.TheVariants as outcome
 use Rattle.machine_model.specs.Steps.{Fetched, waits_for_stores, write_waits}
 use Rattle.machine_model.specs.Words.{word_of, read_from, store_of}
 use Rattle.machine_types.specs.declared.model.MemoryModel.{MemoryModel}
-use Rattle.memory_model.specs.declared.operation.Kind.TheVariants.{Load, Store}
-use Rattle.memory_model.specs.Rules.{fences}
-use Rattle.reservations.specs.Reservation.{is_valid}
-use Rattle.amo_unit.specs.Amo.{combined}
+use Rattle.machine_model.specs.TheVariants.{Load, Store}
+use Rattle.machine_model.specs.Rules.{fences}
+use Rattle.machine_model.specs.Reservation.{is_valid}
+use Rattle.machine_model.specs.Amo.{combined}
 use Rattle.rv32_decode.specs.Rows.{decoded}
 use Rattle.rv32_decode.specs.declared.instruction.AmoOp.{AmoOp}
 use Rattle.rv32_decode.specs.declared.instruction.Instr.{Instr}
-use Rattle.rv32_exec.specs.Meaning.{Access, Private, Loads, Stores, DoesLr, DoesSc, DoesAmo, Fences, Calls, access_of}
+use Rattle.hart.specs.Meaning.{Access, Private, Loads, Stores, DoesLr, DoesSc, DoesAmo, Fences, Calls, access_of}
 use Rattle.store_buffer.specs.ByteMask.{covers, laid_over, marks_of_access}
 use Rattle.store_buffer.specs.Groups.{drainable, fits, forwarded, has, is_empty}
 

@@ -29,8 +29,8 @@ fn compare_all<R: Files + Threads + Wait + Print + Eprint + Sync + AllocGlobal, 
     gate_rv32_vectors::compare_all(rt)?;
     gate_refusals::play_all(rt)?;
     gate_machine_comparisons::compare_all(rt)?;
-    gate_kept_files::take_all(rt, out)?;
-    gate_transcripts::play_all(rt, out)?;
+    crate::kept_files::take_all(rt, out)?;
+    crate::transcripts::play_all(rt, out)?;
     gate_plain_comparisons::judge_all(rt, out)?;
     gate_plain_comparisons::play_all(rt.alloc(), out)?;
     out.flush()?;

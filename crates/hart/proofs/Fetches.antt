@@ -2,8 +2,8 @@
 use Rattle.std.proofs.Common.{◌≡◌, ◌+◌, ℕ, Bool, true, false, refl, sym, ◌↔◌}
 use Rattle.std.specs.Prelude.{nat_le}
 use Rattle.std.proofs.lemmas.Bool.{false≢true, and_parts, and_from, le-leb, leb-true}
-use Rattle.elf_loader.specs.Image.{Initial, HasWord, end_of}
-use Rattle.elf_loader.specs.Size.{base}
+use Rattle.rv32_exec.specs.Image.{Initial, HasWord, end_of}
+use Rattle.rv32_exec.specs.Size.{base}
 use Rattle.hart.specs.Run.{can_fetch}
 
 pub fetches : (image : Initial) (pc : ℕ) (b : Bool) → (b ≡ true) ↔ HasWord image pc → b ≡ can_fetch image pc

@@ -3,8 +3,8 @@ use Rattle.std.proofs.Common.{◌≡◌, ℕ, zero, suc, ◌+◌, ◌-◌, ◌<�
 use Rattle.std.proofs.lemmas.List.{append-nil}
 use Rattle.std.specs.Prelude.{nat_le, ◌↔◌}
 use Rattle.std.proofs.lemmas.Bool.{false≢true, and_parts, and_from, and_left, and_right, cond-false, cond-true, eq-eqb, le-leb, leb-true}
-use Rattle.elf_loader.specs.Image.{Initial, HasWord, word_at, end_of}
-use Rattle.elf_loader.specs.Size.{base}
+use Rattle.rv32_exec.specs.Image.{Initial, HasWord, word_at, end_of}
+use Rattle.rv32_exec.specs.Size.{base}
 use Rattle.machine_types.specs.declared.limits.TheConstants.{MAX_ROW}
 use Rattle.rv32_decode.specs.Rows.{decoded}
 use Rattle.rv32_decode.specs.declared.instruction.Instr.{Instr}

@@ -1,6 +1,6 @@
 -- What a run's status tells of its last entry.
 use Rattle.std.specs.Prelude.{ℕ, ◌≡◌, ◌%◌, List, [], ◌∷◌, ◌++◌, Option, Some, None, IsTrue}
-use Rattle.elf_loader.specs.Image.{Initial}
+use Rattle.rv32_exec.specs.Image.{Initial}
 use Rattle.rv32_decode.specs.Rows.{decoded}
 use Rattle.rv32_decode.specs.declared.instruction.Instr.{Instr}
 use Rattle.rv32_exec.specs.Meaning.{Access, Private, Calls, access_of}

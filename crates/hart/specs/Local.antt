@@ -1,6 +1,6 @@
 -- Rows of private instructions: those that touch no memory, fence nothing and call nothing, so that a hart does them alone.
 use Rattle.std.specs.Prelude.{ℕ, ◌≡◌, ◌≤◌, zero, suc, Bool, true, false, ◌&&◌, ◌==◌, if◌then◌else◌, List, [], ◌∷◌, length, Option, Some, None, is_none, IsTrue}
-use Rattle.elf_loader.specs.Image.{Initial, word_at}
+use Rattle.rv32_exec.specs.Image.{Initial, word_at}
 use Rattle.machine_types.specs.declared.limits.TheConstants.{MAX_ROW}
 use Rattle.rv32_decode.specs.Rows.{decoded}
 use Rattle.rv32_decode.specs.declared.instruction.Instr.{Instr}

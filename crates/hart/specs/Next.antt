@@ -1,6 +1,6 @@
 -- What a hart does next.
 use Rattle.std.specs.Prelude.{ℕ, length, Option, Some, None, if◌then◌else◌}
-use Rattle.elf_loader.specs.Image.{Initial, word_at}
+use Rattle.rv32_exec.specs.Image.{Initial, word_at}
 use Rattle.hart.specs.Run.{can_fetch}
 use Rattle.hart.specs.declared.state.Hart.{Hart}
 use Rattle.rv32_decode.specs.Rows.{decoded}

@@ -1,7 +1,7 @@
 -- Runs: which lists of retired instructions a hart can have, by the meaning of instructions alone (RISC-V Unprivileged ISA 20191213, chapters 2, 7 and 8; how a hart ends is this machine's own). No cache, buffer, message or other hart is spoken of.
 use Rattle.std.specs.Prelude.{ℕ, ◌+◌, ◌%◌, ◌^◌, Bool, true, false, ◌&&◌, ◌==◌, nat_lt, nat_le, if◌then◌else◌, List, [], ◌∷◌, length, Option, Some, None, is_some, is_none, unwrap_or}
-use Rattle.elf_loader.specs.Image.{Initial, end_of, word_at}
-use Rattle.elf_loader.specs.Size.{base}
+use Rattle.rv32_exec.specs.Image.{Initial, end_of, word_at}
+use Rattle.rv32_exec.specs.Size.{base}
 use Rattle.rv32_decode.specs.Rows.{decoded}
 use Rattle.rv32_decode.specs.declared.instruction.Instr.{Instr}
 use Rattle.rv32_exec.specs.Meaning.{Access, Private, Loads, Stores, DoesLr, DoesSc, DoesAmo, Fences, Calls, Effect, effect_of, access_of, stop_of}

@@ -1,6 +1,6 @@
 //! Rows of instructions that a hart does alone.
 ghost use Rattle.std.specs.Prelude.{◌≡◌, ◌≤◌, IfOk, Some, None, if◌then◌else◌};
-ghost use Rattle.elf_loader.specs.Size.{IsMemorySize};
+ghost use Rattle.rv32_exec.specs.Size.{IsMemorySize};
 ghost use Rattle.hart.specs.Local.{IsPrivateRow, can_go_alone, is_done_alone, next_entry, next_step, private_row_from, with_effect};
 ghost use Rattle.hart.specs.Run.{after};
 ghost use Rattle.machine_types.specs.declared.limits.TheConstants.{MAX_ROW};
@@ -8,8 +8,8 @@ ghost use Rattle.rv32_exec.specs.Meaning.{effect_of};
 
 use crate::retired::Retired;
 use crate::state::Hart;
-use elf_loader::Image;
 use rv32_decode::{Instr, decode};
+use rv32_exec::elf_loader::Image;
 use rv32_exec::{Action, finish, plan};
 use std::alloc::{AllocError, Global};
 use std::marker::Model;

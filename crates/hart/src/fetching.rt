@@ -1,12 +1,12 @@
 //! What is fetched at an address, and what a hart does next.
 ghost use Rattle.std.specs.Prelude.{◌≡◌, IsTrue};
-ghost use Rattle.elf_loader.specs.Image.{HasWord};
+ghost use Rattle.rv32_exec.specs.Image.{HasWord};
 ghost use Rattle.hart.specs.Next.{instr_at, next_action};
 ghost use Rattle.hart.specs.Run.{can_fetch};
 
 use crate::state::Hart;
-use elf_loader::Image;
 use rv32_decode::{Instr, decode};
+use rv32_exec::elf_loader::Image;
 use rv32_exec::{Action, plan};
 
 /// Whether a word of memory lies at this address, so that an instruction can be fetched from there.

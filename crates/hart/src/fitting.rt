@@ -1,6 +1,6 @@
 //! Whether an instruction stops its hart, what its entry has to tell, and which status a hart may have.
 ghost use Rattle.std.specs.Prelude.{◌≡◌, ◌^◌, List, ℕ};
-ghost use Rattle.elf_loader.specs.Size.{IsMemorySize};
+ghost use Rattle.rv32_exec.specs.Size.{IsMemorySize};
 ghost use Rattle.hart.specs.Run as run;
 ghost use Rattle.rv32_exec.specs.Arithmetic.{bytes_loaded};
 ghost use Rattle.rv32_exec.specs.Meaning.{access_of, stop_of};
@@ -9,8 +9,8 @@ use crate::fetching::can_fetch;
 use crate::retired::Retired;
 use crate::state::Hart;
 use crate::status::Status;
-use elf_loader::Image;
 use rv32_decode::{Instr, LoadOp, decode};
+use rv32_exec::elf_loader::Image;
 use rv32_exec::{Action, plan, stop};
 
 impl Hart {

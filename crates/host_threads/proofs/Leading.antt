@@ -1,6 +1,6 @@
 -- Where a journal leads, and that no event of it is refused where each changed the machine.
 use Rattle.std.proofs.Common.{◌≡◌, ◌∙◌, refl, sym, subst, ℕ, ◌+◌, List, [], ◌∷◌}
-use Rattle.coherent_machine.specs.Machine.{IsReached, KeepsHeadline, Replayed, replayed_from, unless_refused}
+use Rattle.locked_fabric.specs.Machine.{IsReached, KeepsHeadline, Replayed, replayed_from, unless_refused}
 use Rattle.elf_loader.specs.Image.{Initial, IsImage}
 use Rattle.locked_fabric.specs.FabricState.{AreMoves, FabricState, IsReplay, reset_of}
 use Rattle.machine_types.specs.declared.config.Config.{Config}

@@ -12,7 +12,7 @@ use Rattle.machine_types.specs.declared.event.Event.{Event}
 use Rattle.machine_types.specs.declared.outcome.Outcome.{Outcome}
 use Rattle.machine_model.specs.Events.{Verdict, verdict}
 use Rattle.machine_model.specs.Events.Verdict.{IsBad, Keeps, IsLimited, Moves}
-use Rattle.machine_parts.specs.declared.errors.ApplyError.{ApplyError}
+use Rattle.locked_fabric.specs.ApplyError.{ApplyError}
 use Rattle.progress_board.proofs.Below.{below-less, below-more}
 use Rattle.progress_board.specs.Rule.{below}
 use Rattle.progress_board.specs.Seat.{view}

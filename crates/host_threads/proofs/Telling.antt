@@ -3,8 +3,8 @@ use Rattle.std.proofs.Common.{◌≡◌, ◌≢◌, ◌∙◌, ⊎_elim, ap, ari
 use Rattle.std.proofs.lemmas.Bool.Decides.{nat_tests}
 use Rattle.std.specs.Prelude.{◌||◌, ◌==◌, not, OnErr, OnOk}
 use Rattle.std.specs.declared.result.Result.{Result}
-use Rattle.coherent_machine.specs.Adopting.{local_of}
-use Rattle.coherent_machine.specs.declared.errors.AdoptError.{AdoptError}
+use Rattle.locked_fabric.specs.Adopting.{local_of}
+use Rattle.locked_fabric.specs.AdoptError.{AdoptError}
 use Rattle.hart.specs.Local.{PrivateRow}
 use Rattle.hart.specs.declared.status.Status.{Status}
 use Rattle.host_threads.specs.Endings.{is_spent}
@@ -19,8 +19,8 @@ use Rattle.machine_types.specs.declared.outcome.Outcome.{Outcome}
 use Rattle.machine_model.specs.Events.{Verdict, verdict}
 use Rattle.machine_model.specs.Events.Verdict.{IsBad, Keeps, IsLimited, Moves}
 use Rattle.machine_model.specs.Views.{State}
-use Rattle.machine_parts.specs.declared.errors.ApplyError.{ApplyError}
-use Rattle.machine_parts.specs.declared.errors.ApplyError.TheVariants as apply
+use Rattle.locked_fabric.specs.ApplyError.{ApplyError}
+use Rattle.locked_fabric.specs.TheVariants as apply
 use Rattle.progress_board.specs.Seat.{view}
 use Rattle.progress_board.specs.declared.seat.Seat.{Seat}
 use Rattle.progress_board.specs.declared.view.View.{View}

@@ -13,8 +13,8 @@ use Rattle.machine_types.specs.declared.outcome.Outcome.{Outcome}
 use Rattle.machine_model.specs.Events.{verdict}
 use Rattle.machine_model.specs.Events.Verdict.{IsBad}
 use Rattle.machine_model.specs.Views.{State}
-use Rattle.machine_parts.specs.declared.errors.ApplyError.{ApplyError}
-use Rattle.machine_parts.specs.declared.errors.ApplyError.TheVariants as apply
+use Rattle.locked_fabric.specs.ApplyError.{ApplyError}
+use Rattle.locked_fabric.specs.TheVariants as apply
 use Rattle.progress_board.specs.Seat.{harts_of}
 use Rattle.progress_board.specs.declared.view.View.{View}
 

@@ -9,3 +9,4 @@ pub mod Replays
 pub mod Route
 pub mod Telling
 pub mod Workers
+pub use Rattle.locked_fabric.specs.Moves

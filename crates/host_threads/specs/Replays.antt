@@ -1,7 +1,7 @@
 -- What a report says of a run.
 use Rattle.std.specs.Prelude.{◌≡◌, ℕ, ◌≤◌, length, map, sum}
 use Rattle.std.specs.List.{All}
-use Rattle.coherent_machine.specs.Machine.{IsReached, Replayed, replayed_from}
+use Rattle.locked_fabric.specs.Machine.{IsReached, Replayed, replayed_from}
 use Rattle.elf_loader.specs.Image.{Initial}
 use Rattle.host_threads.specs.declared.report.Report.{Report}
 use Rattle.locked_fabric.specs.FabricState.{AreMoves}

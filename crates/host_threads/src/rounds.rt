@@ -9,10 +9,10 @@ ghost use Rattle.machine_model.specs.Views.{node_at};
 
 use crate::spare::lowest_spare;
 use client_cache::ClientCache;
-use coherent_machine::Views;
 use elf_loader::Image;
 use hart::Hart;
 use locked_fabric::Turn;
+use locked_fabric::coherent_machine::Views;
 use machine_types::{Config, Event, Outcome};
 use rv32_exec::Action;
 use std::marker::Model;

@@ -2,7 +2,7 @@
 
 ghost use Rattle.std.specs.Prelude.{◌≡◌, ◌≢◌, ◌↔◌, ◌⊎◌, ◌≤◌, Err, IfErr, IfOk, None, length, map, sum, vec_len};
 ghost use Rattle.std.specs.List.{All};
-ghost use Rattle.coherent_machine.specs.Machine.{IsReached};
+ghost use Rattle.locked_fabric.specs.Machine.{IsReached};
 ghost use Rattle.host_threads.specs.Workers.{common_of};
 ghost use Rattle.host_threads.specs.Faults.{IsFirstFault, first_fault};
 ghost use Rattle.host_threads.specs.Replays.{IsOf, IsRun, IsWithinLimit, JournalMoves, JournalReplays, end_of_journal};

@@ -3,8 +3,8 @@
 ghost use Rattle.std.specs.Prelude.{◌≡◌, ◌↔◌, IsTrue};
 ghost use Rattle.elf_loader.specs.Image.{IsImage};
 
-use coherent_machine::Machine;
 use elf_loader::Image;
+use locked_fabric::coherent_machine::Machine;
 use machine_types::Config;
 
 fn is_same_image(one: &Image, other: &Image) -> bool

@@ -7,9 +7,9 @@ ghost use Rattle.host_threads.specs.Picking as picking;
 ghost use Rattle.machine_types.specs.declared.event.Event.TheVariants as TheEvents;
 ghost use Rattle.machine_model.specs.Views.{node_at};
 
-use coherent_machine::{Machine, Views};
 use elf_loader::Image;
 use hart::{Hart, Status, next_alone};
+use locked_fabric::coherent_machine::{Machine, Views};
 use locked_fabric::{Turn, Visit, seen_in};
 use machine_types::{Event, MAX_CHANGES, MAX_ENTRIES, Outcome};
 

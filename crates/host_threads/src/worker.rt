@@ -1,7 +1,7 @@
 //! What one thread does.
 
 ghost use Rattle.std.specs.Prelude.{◌≡◌, ◌≢◌, ◌+◌, ◌==◌, false, true, Err, IfOk, IfSome, None, OnErr, OnOk, not};
-ghost use Rattle.coherent_machine.specs.Adopting.{local_of};
+ghost use Rattle.locked_fabric.specs.Adopting.{local_of};
 ghost use Rattle.hart.specs.Local.{private_row_from};
 ghost use Rattle.host_threads.specs.Endings.{IsReason, WasBad, ending_of, fault_of, is_spent, outcome_of};
 ghost use Rattle.host_threads.specs.Pace.{IsPaced};
@@ -15,8 +15,8 @@ use crate::ending::Ending;
 use crate::gate::Gate;
 use crate::report::Fault;
 use crate::watched::Watched;
-use coherent_machine::{AdoptError, ApplyError};
 use hart::{Hart, run_local};
+use locked_fabric::coherent_machine::{AdoptError, ApplyError};
 use locked_fabric::{Numbers, Port, Share, Taken, Turn};
 use machine_types::{Event, MAX_HARTS, MAX_ROW, Outcome};
 use progress_board::Seat;

@@ -4,12 +4,12 @@ use Rattle.std.proofs.lemmas.List.{get_or-map, length-map}
 use Rattle.std.proofs.lemmas.List.Elements.{All-map}
 use Rattle.architecture_outcomes.specs.Outcomes.{IsWitnessed, TellsEachEnd, machine_end, of_found}
 use Rattle.elf_loader.specs.Image.{Initial}
-use Rattle.explorer.specs.declared.found.Found.{Found}
-use Rattle.explorer.specs.Ends.{IsRealIn, outcome_of, outcomes_of}
-use Rattle.explorer.specs.Outcomes.{HasEachEnd}
+use Rattle.architecture_outcomes.specs.Found.{Found}
+use Rattle.architecture_outcomes.specs.Ends.{IsRealIn, outcome_of, outcomes_of}
+use Rattle.architecture_outcomes.specs.ExplorerOutcomes.{HasEachEnd}
 use Rattle.flat_exploration.specs.Outcomes.{Outcome as End, machine_outcome}
 use Rattle.machine_types.specs.declared.config.Config.{Config}
-use Rattle.schedules.specs.Schedules.{led}
+use Rattle.architecture_outcomes.specs.Schedules.{led}
 
 Contains-map : {X Y : Type 0} (f : X → Y) (xs : List X) (x : X) → Contains xs x → Contains (map f xs) (f x)
 Contains-map f xs x (k, l, e) = (k, subst (λ n. k < n) (sym (length-map xs f)) l, get_or-map f xs k x (f x) l ∙ ap f e)

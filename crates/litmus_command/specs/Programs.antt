@@ -3,7 +3,7 @@ use Rattle.std.specs.Prelude.{ℕ, ◌≡◌, List, Ok}
 use Rattle.std.specs.Int.{to_le_bytes, w32}
 use Rattle.std.specs.List.{flat_map}
 use Rattle.elf_loader.specs.Raw.{raw_answer}
-use Rattle.performed_words.specs.Words.{CanShowEach}
+use Rattle.architecture_outcomes.specs.Words.{CanShowEach}
 use Rattle.litmus_answers.specs.declared.layout.Layout.{Layout}
 use Rattle.litmus_command.specs.declared.program.Program.{Program}
 

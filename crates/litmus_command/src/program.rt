@@ -1,14 +1,14 @@
 //! A test's program, and the machine that runs it.
 ghost use Rattle.std.specs.Prelude.{◌≡◌, IfOk, IfSome, IsTrue, Ok};
 ghost use Rattle.elf_loader.specs.Raw.{raw_answer};
-ghost use Rattle.performed_words.specs.Words.{CanShowEach};
+ghost use Rattle.architecture_outcomes.specs.Words.{CanShowEach};
 ghost use Rattle.litmus_command.specs.Programs as programs;
 
 use crate::fault::Trouble;
+use architecture_outcomes::performed_words::can_show;
 use elf_loader::{Image, raw, size_of_kib};
 use litmus_answers::Layout;
 use machine_types::{Config, MemoryModel};
-use performed_words::can_show;
 use std::alloc::{AllocError, Global};
 use tl_types::LineSize;
 

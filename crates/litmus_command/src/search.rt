@@ -1,16 +1,16 @@
 //! The ends to which a test's program comes.
 ghost use Rattle.std.specs.Prelude.{◌≡◌, ◌<◌, All, IfOk, IsTrue, map};
 ghost use Rattle.architecture_outcomes.specs.Outcomes.{IsWitnessed, TellsEachEnd, of_found};
-ghost use Rattle.performed_words.specs.Words.{CanShowEach};
+ghost use Rattle.architecture_outcomes.specs.Words.{CanShowEach};
 
 use crate::program::Program;
 use crate::wanted::Wanted;
+use architecture_outcomes::explorer::{Exploration, Exploring, Found, explore};
+use architecture_outcomes::window_search::Reach;
 use architecture_outcomes::{Outcome, Way, explore_architecture};
-use explorer::{Exploration, Exploring, Found, explore};
 use state_search::Unwatched;
 use std::alloc::{AllocError, Global};
 use std::mem;
-use window_search::Reach;
 
 /// What was found of a program.
 #[derive(Drop)]

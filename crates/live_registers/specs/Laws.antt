@@ -1,6 +1,6 @@
 -- Liveness is closed: nothing that may be read is left out. And what isn't live may count as 0.
 use Rattle.std.specs.Prelude.{ℕ, ◌≡◌, ◌<◌, true, false, List, Some}
-use Rattle.elf_loader.specs.Image.{Initial, HasWord, word_at}
+use Rattle.rv32_exec.specs.Image.{Initial, HasWord, word_at}
 use Rattle.rv32_decode.specs.Rows.{decoded}
 use Rattle.rv32_decode.specs.declared.instruction.Instr.{Instr}
 use Rattle.rv32_exec.specs.Meaning.{access_of, next_of, stop_of, written_of}

@@ -1,8 +1,8 @@
 -- Which registers an instruction may still read when a hart stands before it, as a number in binary: digit r is register r's. x0 has no digit; digit 0 is the reservation's, which an SC asks for (RISC-V Unprivileged ISA 20191213, chapters 2, 7 and 8).
 use Rattle.std.specs.Prelude.{ℕ, suc, zero, ◌+◌, ◌-◌, ◌*◌, ◌/◌, ◌%◌, ◌^◌, Bool, true, ◌&&◌, ◌==◌, if◌then◌else◌, List, length, Option, Some, None, bit_and, bit_or, slice_index, slice_set, replicate}
 use Rattle.std.specs.Int.{bit_at, bit_not, w32}
-use Rattle.elf_loader.specs.Image.{Initial, word_at}
-use Rattle.elf_loader.specs.Size.{base}
+use Rattle.rv32_exec.specs.Image.{Initial, word_at}
+use Rattle.rv32_exec.specs.Size.{base}
 use Rattle.rv32_decode.specs.Rows.{decoded}
 use Rattle.rv32_decode.specs.declared.instruction.Instr.{Instr}
 use Rattle.rv32_decode.specs.declared.instruction.Instr.TheVariants.{Upper, Jal, Jalr, Branch, Load, Store, Immediate, Shift, Register, Fence, FenceTso, System, Lr, Sc, Amo}

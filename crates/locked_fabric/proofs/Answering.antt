@@ -7,9 +7,9 @@ use Rattle.machine_model.specs.Events.{Verdict, verdict}
 use Rattle.machine_model.specs.Events.Verdict.{IsBad, Keeps, IsLimited, Moves}
 use Rattle.machine_model.specs.Laws.{ChangesAreCounted}
 use Rattle.machine_model.specs.Views.{State}
-use Rattle.machine_parts.specs.declared.errors.ApplyError.{ApplyError}
-use Rattle.machine_parts.specs.declared.errors.ApplyError.TheVariants.{NoMemory}
-use Rattle.machine_parts.specs.Applying.{Answers}
+use Rattle.coherent_machine.specs.ApplyError.{ApplyError}
+use Rattle.coherent_machine.specs.TheVariants.{NoMemory}
+use Rattle.coherent_machine.specs.Applying.{Answers}
 use Rattle.locked_fabric.specs.FabricState.{FabricState, Answered, Does, journalled}
 
 -- where the number of changes stays, the machine does

@@ -9,8 +9,8 @@ use Rattle.machine_model.specs.Events.{Verdict, verdict, after_events}
 use Rattle.machine_model.specs.Events.Verdict.{IsBad, Keeps, IsLimited, Moves}
 use Rattle.machine_model.specs.LawfulLog.{IsLawfulLog}
 use Rattle.machine_model.specs.Views.{State, opening}
-use Rattle.machine_parts.specs.declared.errors.ApplyError.{ApplyError}
-use Rattle.machine_parts.specs.declared.errors.ApplyError.TheVariants.{BadEvent, Limit, NoMemory}
+use Rattle.coherent_machine.specs.ApplyError.{ApplyError}
+use Rattle.coherent_machine.specs.TheVariants.{BadEvent, Limit, NoMemory}
 use Rattle.coherent_machine.specs.Machine.{KeepsHeadline}
 pub use Rattle.coherent_machine.specs.Moves.{AreMoves, IsMove}
 

@@ -1,3 +1,9 @@
 pub mod FabricState
 pub mod Port
 pub mod Turns
+pub use Rattle.coherent_machine.specs.Adopting
+pub use Rattle.coherent_machine.specs.Machine
+pub use Rattle.coherent_machine.specs.declared.errors.AdoptError
+pub use Rattle.coherent_machine.specs.ApplyError
+pub use Rattle.coherent_machine.specs.TheVariants
+pub use Rattle.coherent_machine.specs.Moves

@@ -18,7 +18,7 @@ use Rattle.machine_types.specs.declared.outcome.Outcome.TheVariants.{Retired}
 use Rattle.machine_model.specs.Events.{verdict}
 use Rattle.machine_model.specs.Events.Verdict.{IsLimited, Moves}
 use Rattle.machine_model.specs.Views.{State, node_at}
-use Rattle.machine_parts.specs.declared.errors.ApplyError.{ApplyError}
+use Rattle.coherent_machine.specs.ApplyError.{ApplyError}
 use Rattle.progress_board.specs.contracts.seat.Seat as seat
 use Rattle.progress_board.specs.declared.seat.Seat.{Seat}
 use Rattle.trace_recorder.specs.History.{History, entries_of}

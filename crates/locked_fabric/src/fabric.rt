@@ -46,7 +46,7 @@ impl<L: Ledger> Model for Fabric<L> {
     ghost use Rattle.std.specs.Prelude.{◌≡◌, ◌≤◌, [], vec_capacity};
     ghost use Rattle.locked_fabric.specs.FabricState.{FabricState, IsKept};
     ghost use Rattle.std.specs.Coded.{codes};
-    ghost use Rattle.machine_parts.specs.Codes.{cache_coded};
+    ghost use Rattle.coherent_machine.specs.Codes.{cache_coded};
 
     ghost Value = { FabricState };
 

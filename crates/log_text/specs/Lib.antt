@@ -3,3 +3,5 @@ pub mod Ending
 pub mod Objections
 pub mod Places
 pub mod Verdicts
+pub use Rattle.message_judge.specs.Laws
+pub use Rattle.message_judge.specs.declared.verdict.MessageVerdict

@@ -14,3 +14,25 @@ pub mod LogLaws
 pub mod HeadlineLaws
 pub mod Ready
 pub mod Ranges
+pub use Rattle.memory_model.specs.Examples
+pub use Rattle.memory_model.specs.Traces
+pub use Rattle.memory_model.specs.declared.operation.Kind.TheVariants
+pub use Rattle.memory_model.specs.Rules
+pub use Rattle.memory_model.specs.Items
+pub use Rattle.memory_model.specs.Order
+pub use Rattle.memory_model.specs.Operations
+pub use Rattle.trace_recorder.specs.History
+pub use Rattle.rv32_exec.specs.Width
+pub use Rattle.tilelink_channels.specs.Queues
+pub use Rattle.elf_loader.specs.Image
+pub use Rattle.elf_loader.specs.Size
+pub use Rattle.memory_model.specs.declared.operation.Operation
+pub use Rattle.reservations.specs.Reservation
+pub use Rattle.directory.specs.Directory
+pub use Rattle.directory.specs.declared.answer.Acquired
+pub use Rattle.directory.specs.declared.answer.Acquired.TheVariants as AcquiredVariants
+pub use Rattle.directory.specs.declared.answer.Grant
+pub use Rattle.directory.specs.declared.answer.Sent
+pub use Rattle.directory.specs.declared.answer.Sent.TheVariants as SentVariants
+pub use Rattle.rv32_exec.specs.Amo
+pub use Rattle.backing_memory.specs.Memory

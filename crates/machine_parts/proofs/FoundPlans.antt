@@ -14,12 +14,12 @@ use Rattle.rv32_decode.specs.declared.instruction.LoadOp.TheVariants as load
 use Rattle.rv32_decode.specs.declared.instruction.StoreOp.{StoreOp}
 use Rattle.rv32_decode.specs.declared.instruction.StoreOp.TheVariants as store
 use Rattle.rv32_decode.specs.declared.instruction.SystemOp.TheVariants.{Ecall, Ebreak}
-use Rattle.rv32_exec.specs.Meaning.{Access, Private, Loads, Stores, DoesLr, DoesSc, DoesAmo, Fences, Calls, access_of, access_stop, is_outside, stop_of}
-use Rattle.rv32_exec.specs.Actions.{action_of_access, planned, stop_or, width_of}
-use Rattle.rv32_exec.specs.Arithmetic.{bytes_stored}
-use Rattle.rv32_exec.specs.Width.{byte_count}
-use Rattle.rv32_exec.specs.declared.actions.Action.{Action}
-use Rattle.rv32_exec.specs.declared.actions.Action.TheVariants as action
+use Rattle.hart.specs.Meaning.{Access, Private, Loads, Stores, DoesLr, DoesSc, DoesAmo, Fences, Calls, access_of, access_stop, is_outside, stop_of}
+use Rattle.hart.specs.Actions.{action_of_access, planned, stop_or, width_of}
+use Rattle.hart.specs.Arithmetic.{bytes_stored}
+use Rattle.hart.specs.Width.{byte_count}
+use Rattle.hart.specs.Action.{Action}
+use Rattle.hart.specs.ActionVariants as action
 
 -- the access of an instruction that doesn't stop is this one
 abbrev Goes : (stop : Option ℕ) (found wanted : Access) → Type 0

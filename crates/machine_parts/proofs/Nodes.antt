@@ -1,7 +1,7 @@
 -- Where a node stands after a change of one.
 use Rattle.std.proofs.Common.{◌≡◌, ℕ, ◌<◌, List, [], length, Option, None, ap, refl, slice_index_or, subst, sym, ◌∙◌, ◌/◌, map}
 use Rattle.std.specs.List.{range_with_len}
-use Rattle.backing_memory.specs.Memory.{lines_of}
+use Rattle.machine_model.specs.Memory.{lines_of}
 use Rattle.std.proofs.lemmas.List.{get_or-set_same, get_or_default, length-set, set-set}
 use Rattle.client_cache.specs.Cache.{Cache, opening, probed}
 use Rattle.client_cache.specs.declared.answers.Probed.{Probed}

@@ -1,6 +1,6 @@
 -- What the handling of a message rests on, once the message is taken.
 use Rattle.std.specs.Prelude.{ℕ, ◌≡◌, ◌<◌, ◌≤◌, List, length, Option, Some, None, slice_set}
-use Rattle.backing_memory.specs.Memory.{line_data}
+use Rattle.machine_model.specs.Memory.{line_data}
 use Rattle.client_cache.specs.Cache.{granted, probed}
 use Rattle.directory.specs.declared.answer.Sent.{Sent}
 use Rattle.directory.specs.declared.answer.Sent.TheVariants.{Probes, Granting}

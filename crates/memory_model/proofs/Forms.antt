@@ -4,7 +4,7 @@ use Rattle.std.specs.Prelude.{nat_eq, IsTrue}
 use Rattle.std.specs.List.{AllByRecursion as Each, Contains, filter, list_any, last_or}
 use Rattle.std.proofs.lemmas.Bool.{false≢true, true≢false, ltb-true, lt-ltb, le-ltb, and_from, and_parts, eq-eqb, eqb-true, or_left, or_right, not-true}
 use Rattle.std.proofs.lemmas.List.Elements.{filter-append}
-use Rattle.machine_types.specs.declared.model.MemoryModel.{MemoryModel}
+use Rattle.hart.specs.MemoryModel.{MemoryModel}
 use Rattle.memory_model.specs.declared.operation.Operation.{Operation}
 use Rattle.memory_model.specs.Operations.{same, precedes, stores_to}
 use Rattle.memory_model.specs.Order.{Respects, before, position_in, in_order, none_must_precede, candidates, source, is_visible, last_visible}

@@ -4,7 +4,7 @@ use Rattle.std.specs.List.{AllByRecursion as Each, filter, list_any, list_all}
 use Rattle.std.proofs.lemmas.Bool.{false≢true, true≢false, and_parts, and_from, or_left, eqb-true}
 use Rattle.std.proofs.lemmas.List.Elements.{recursion_from_All}
 use Rattle.std.specs.Prelude.{IsFalse, nat_eq}
-use Rattle.machine_types.specs.declared.model.MemoryModel.TheVariants.{Rvwmo, Ztso}
+use Rattle.hart.specs.TheVariants.{Rvwmo, Ztso}
 use Rattle.memory_model.specs.declared.operation.Operation.{Operation}
 use Rattle.memory_model.specs.Operations.{same, precedes, reads, addresses_of, read_at, stores_to, is_amo, writes}
 use Rattle.memory_model.specs.Order.{in_order, none_must_precede, candidates, source, last_of, byte_from}

@@ -4,11 +4,11 @@ use Rattle.std.specs.Prelude.{nat_eq, option_and_then, slice_get}
 use Rattle.std.specs.List.{AllByRecursion as Each, filter, cons_option, list_any}
 use Rattle.std.proofs.lemmas.Bool.{false≢true, and_parts, and_from, or_left, or_right, or_from, or_parts, and_left, and_right, eq-eqb, eqb-true, ne_eqb, not-true}
 use Rattle.std.proofs.lemmas.List.Folds.{list_any-append}
-use Rattle.elf_loader.specs.Image.{Initial}
-use Rattle.rv32_decode.specs.declared.instruction.Annotations.{Annotations}
-use Rattle.rv32_decode.specs.declared.instruction.Instr.{Instr}
-use Rattle.rv32_decode.specs.Rows.{decoded}
-use Rattle.rv32_exec.specs.Meaning.{Access, Private, Loads, Stores, DoesLr, DoesSc, DoesAmo, Fences, Calls, access_of}
+use Rattle.hart.specs.Image.{Initial}
+use Rattle.hart.specs.Annotations.{Annotations}
+use Rattle.hart.specs.Instr.{Instr}
+use Rattle.hart.specs.Rows.{decoded}
+use Rattle.hart.specs.Meaning.{Access, Private, Loads, Stores, DoesLr, DoesSc, DoesAmo, Fences, Calls, access_of}
 use Rattle.hart.specs.declared.retired.Retired.{Retired}
 use Rattle.hart.specs.declared.state.Hart.{Hart}
 use Rattle.hart.specs.Run.{after, after_instr, at_reset}

@@ -4,12 +4,12 @@ use Rattle.std.specs.Prelude.{nat_eq, is_some, slice_get, option_and_then}
 use Rattle.std.specs.Option.{option_map_or}
 use Rattle.std.proofs.lemmas.Bool.{and_from, and_left, and_right, eq-eqb, ne_eqb}
 use Rattle.std.proofs.lemmas.List.Folds.{list_any-append}
-use Rattle.elf_loader.specs.Image.{Initial}
-use Rattle.rv32_decode.specs.Rows.{decoded}
-use Rattle.rv32_decode.specs.declared.instruction.Instr.{Instr}
-use Rattle.rv32_decode.specs.declared.instruction.Instr.TheVariants as instr
-use Rattle.rv32_decode.specs.declared.instruction.SystemOp.TheVariants.{Ecall, Ebreak}
-use Rattle.rv32_exec.specs.Meaning.{access_of}
+use Rattle.hart.specs.Image.{Initial}
+use Rattle.hart.specs.Rows.{decoded}
+use Rattle.hart.specs.Instr.{Instr}
+use Rattle.hart.specs.InstrVariants as instr
+use Rattle.hart.specs.SystemOpVariants.{Ecall, Ebreak}
+use Rattle.hart.specs.Meaning.{access_of}
 use Rattle.hart.specs.declared.retired.Retired.{Retired}
 use Rattle.hart.specs.declared.state.Hart.{Hart}
 use Rattle.hart.specs.Run.{after, at_reset}

@@ -4,8 +4,8 @@
 -- table of 14.3 has that destination of an SC that succeeded alone.
 use Rattle.std.specs.Prelude.{ℕ, Bool, true, false, ◌&&◌, ◌||◌, nat_lt, List, [], ◌∷◌, ◌++◌, Option, Some, None, filter, replicate, slice_get, slice_index_or, slice_set}
 use Rattle.std.specs.List.{list_any}
-use Rattle.rv32_decode.specs.declared.instruction.Instr.{Instr}
-use Rattle.rv32_exec.specs.Uses.{Uses, is_steering, uses_of}
+use Rattle.hart.specs.Instr.{Instr}
+use Rattle.hart.specs.Uses.{Uses, is_steering, uses_of}
 use Rattle.memory_model.specs.declared.operation.Operation.{Operation}
 use Rattle.memory_model.specs.Operations.{precedes}
 use Rattle.memory_model.specs.Items.{Item}

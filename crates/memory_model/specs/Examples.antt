@@ -1,14 +1,14 @@
 -- Small runs, to be judged: traces of an image of bare words in 4 KiB of memory.
 use Rattle.std.specs.Prelude.{ℕ, ◌≡◌, ◌+◌, ◌-◌, ◌*◌, ◌/◌, ◌%◌, ◌^◌, Bool, true, false, List, [], ◌∷◌, ◌++◌, Some, None, length, drop, map, replicate, take}
-use Rattle.elf_loader.specs.Image.{Initial}
-use Rattle.elf_loader.specs.Size.{base}
+use Rattle.hart.specs.Image.{Initial}
+use Rattle.hart.specs.Size.{base}
 use Rattle.hart.specs.declared.retired.Retired.{Retired}
 use Rattle.hart.specs.declared.status.Status.{Status}
 use Rattle.hart.specs.declared.status.Status.TheVariants.{Running}
-use Rattle.tl_types.specs.declared.line.LineSize.TheVariants.{Bytes16}
+use Rattle.trace_recorder.specs.TheVariants.{Bytes16}
 use Rattle.trace_recorder.specs.History.{History}
 use Rattle.trace_recorder.specs.declared.operation.OpId.{OpId}
-use Rattle.machine_types.specs.declared.model.MemoryModel.{MemoryModel}
+use Rattle.hart.specs.MemoryModel.{MemoryModel}
 use Rattle.memory_model.specs.Traces.{are_runs, has_each_operation_once, judged_legal}
 use Rattle.memory_model.specs.Verdict.{fault_in}
 

@@ -1,12 +1,12 @@
 -- A hart's retired instructions with their memory operations (RISC-V Unprivileged ISA 20191213, chapter 14.1, "Memory Model Primitives").
 use Rattle.std.specs.Prelude.{ℕ, ◌+◌, Bool, true, false, if◌then◌else◌, List, [], ◌∷◌, Option, Some, None, unwrap_or}
 use Rattle.std.specs.Option.{option_map_or}
-use Rattle.rv32_decode.specs.Rows.{decoded}
-use Rattle.rv32_decode.specs.declared.instruction.Annotations.{Annotations}
-use Rattle.rv32_decode.specs.declared.instruction.Instr.{Instr}
-use Rattle.rv32_decode.specs.declared.instruction.Instr.TheVariants as instr
-use Rattle.rv32_exec.specs.Meaning.{Access, Private, Loads, Stores, DoesLr, DoesSc, DoesAmo, Fences, Calls, access_of, value_written}
-use Rattle.elf_loader.specs.Image.{Initial}
+use Rattle.hart.specs.Rows.{decoded}
+use Rattle.hart.specs.Annotations.{Annotations}
+use Rattle.hart.specs.Instr.{Instr}
+use Rattle.hart.specs.InstrVariants as instr
+use Rattle.hart.specs.Meaning.{Access, Private, Loads, Stores, DoesLr, DoesSc, DoesAmo, Fences, Calls, access_of, value_written}
+use Rattle.hart.specs.Image.{Initial}
 use Rattle.hart.specs.declared.retired.Retired.{Retired}
 use Rattle.hart.specs.declared.state.Hart.{Hart}
 use Rattle.hart.specs.Run.{number_read, after, at_reset}

@@ -5,8 +5,8 @@ use Rattle.hart.specs.declared.retired.Retired.{Retired}
 use Rattle.hart.specs.declared.state.Hart.{Hart}
 use Rattle.trace_recorder.specs.History.{History}
 use Rattle.trace_recorder.specs.declared.operation.OpId.{OpId}
-use Rattle.machine_types.specs.declared.model.MemoryModel.{MemoryModel}
-use Rattle.machine_types.specs.declared.model.MemoryModel.TheVariants.{Rvwmo, Ztso}
+use Rattle.hart.specs.MemoryModel.{MemoryModel}
+use Rattle.hart.specs.TheVariants.{Rvwmo, Ztso}
 use Rattle.memory_model.specs.declared.operation.Operation.{Operation}
 use Rattle.memory_model.specs.Operations.{precedes, reads, addresses_of, read_at, stores_to}
 use Rattle.memory_model.specs.Order.{Respects, in_order, last_visible, source}

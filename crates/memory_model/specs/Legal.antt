@@ -2,7 +2,7 @@
 -- the atomicity axiom (RISC-V Unprivileged ISA 20191213, chapter 14.1, "Memory Model Axioms").
 use Rattle.std.specs.Prelude.{ℕ, Bool, ◌&&◌, ◌||◌, not, ◌==◌, if◌then◌else◌, List, [], ◌∷◌, Option, Some, None, IsTrue}
 use Rattle.std.specs.List.{list_any, list_all}
-use Rattle.machine_types.specs.declared.model.MemoryModel.{MemoryModel}
+use Rattle.hart.specs.MemoryModel.{MemoryModel}
 use Rattle.memory_model.specs.declared.operation.Operation.{Operation}
 use Rattle.memory_model.specs.Operations.{reads, same, addresses_of, stores_to, read_at}
 use Rattle.memory_model.specs.Order.{in_order, source, byte_from}

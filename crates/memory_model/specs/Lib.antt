@@ -13,3 +13,5 @@ pub mod LitmusPrograms
 pub mod Litmus
 pub mod WorkedRows
 pub mod Laws
+pub use Rattle.trace_recorder.specs.History
+pub use Rattle.trace_recorder.specs.declared.operation.OpId

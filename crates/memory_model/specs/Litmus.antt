@@ -1,7 +1,7 @@
 -- Verdicts on the litmus shapes: orders that a rule of preserved program order or an axiom allows and forbids. A wrong
 -- variant of a rule changes a verdict below.
 use Rattle.std.specs.Prelude.{[], ◌∷◌}
-use Rattle.machine_types.specs.declared.model.MemoryModel.TheVariants.{Rvwmo, Ztso}
+use Rattle.hart.specs.TheVariants.{Rvwmo, Ztso}
 use Rattle.memory_model.specs.Examples.{op, Passes, IsIllegal}
 use Rattle.memory_model.specs.LitmusPrograms.{overlapping_stores, stores_apart, load_before_store, store_before_load, load_before_amo, load_before_sc, two_loads, two_loads_of_image, two_loads_of_equal_values, own_store_between, own_store_to_another_byte, load_of_sc, load_beside_sc, load_of_amo, stores_fence_w_w, stores_fence_r_w, stores_fence_w_r, stores_fence_io, stores_fence_tso, store_fence_tso_load, loads_fence_tso, store_fence_rw_load, loads_fence_rw_w, store_fence_iorw_load, amo_fence_tso_load, store_fence_tso_amo, amo_fence_w_w_store, amo_fence_r_w_store, amo_aq_load, amo_rl_load, lr_aq_load, sc_aq_load, lr_load, loads_of_two_words, store_amo_rl, store_amo_aq, load_sc_rl, load_lr_rl, store_sc, sc_rl_lr_aq, store_lr_aq, sc_lr, store_amo_load, sc_rl_lr, pair_of_two_words, failed_sc_between, another_lr_between, address_from_load, address_overwritten, address_through_x0, address_through_failed_sc, address_past_fence, address_through_jalr, data_from_load, data_of_another, amo_data_from_load, branch_on_load, branch_on_load_then_load, branch_on_another, jalr_on_load, load_of_dependent_store, load_of_addressed_store, load_of_independent_store, load_of_later_store, store_behind_address, load_behind_address, store_behind_free_address, store_behind_failed_sc, load_of_old_value, amo_of_own_value, amo_of_old_value, pair_and_store, pair_and_own_store, pair_of_two_words_and_store, pair_of_two_words_and_other_store, pair_of_own_store, pair_of_foreign_store, load_fence_r_w, lr_fence_r_w, sc_fence_w_w, load_fence_r_r_lr, store_fence_w_w_sc, store_fence_w_r_amo, store_fence_w_w_amo, lr_fence_tso_load, sc_fence_tso_store, store_fence_tso_sc, lr_then_load, load_then_lr, sc_between, amo_between, lr_of_sc, load_of_sc_and_byte, store_to_loaded_address, lr_of_loaded_address, sc_to_loaded_address, amo_of_loaded_address, address_through_load, address_through_lr, address_through_amo_address, address_through_amo_operand, sc_data_from_load, sc_behind_branch, amo_behind_branch, branch_by_second_register, lr_of_dependent_store, load_of_dependent_store_and_byte, store_behind_store_address, store_behind_lr_address, store_behind_sc_address, store_behind_amo_address, sc_behind_address, amo_behind_address}
 

@@ -2,8 +2,8 @@
 -- chapter 14.1, "Memory Model Primitives").
 use Rattle.std.specs.Prelude.{ℕ, ◌+◌, ◌-◌, ◌/◌, ◌%◌, ◌^◌, Bool, true, false, ◌&&◌, ◌||◌, ◌==◌, nat_lt, nat_le, List}
 use Rattle.std.specs.List.{range_with_len}
-use Rattle.machine_types.specs.declared.model.MemoryModel.{MemoryModel}
-use Rattle.machine_types.specs.declared.model.MemoryModel.TheVariants.{Rvwmo, Ztso}
+use Rattle.hart.specs.MemoryModel.{MemoryModel}
+use Rattle.hart.specs.TheVariants.{Rvwmo, Ztso}
 use Rattle.memory_model.specs.declared.operation.Kind.{Kind}
 use Rattle.memory_model.specs.declared.operation.Kind.TheVariants.{Load, Store, Lr, Sc, Amo}
 use Rattle.memory_model.specs.declared.operation.Operation.{Operation}

@@ -2,7 +2,7 @@
 -- instruction writes a register, and others pass on what they read.
 use Rattle.std.specs.Prelude.{ℕ, ◌≡◌, ◌<◌, ◌↔◌, List, [], ◌∷◌, ◌++◌, IsTrue, Contains}
 use Rattle.std.specs.List.{AllByRecursion as Each}
-use Rattle.rv32_exec.specs.Uses.{Uses}
+use Rattle.hart.specs.Uses.{Uses}
 use Rattle.memory_model.specs.declared.operation.Operation.{Operation}
 use Rattle.memory_model.specs.Operations.{precedes}
 use Rattle.memory_model.specs.Items.{Item}

@@ -3,10 +3,10 @@
 -- `items` is the list of their hart. "Returns a value written by" is the source in the order.
 use Rattle.std.specs.Prelude.{ℕ, Bool, true, false, ◌&&◌, ◌||◌, not, ◌==◌, List, [], ◌∷◌, Option, Some, None, slice_index_or}
 use Rattle.std.specs.List.{list_any}
-use Rattle.rv32_decode.specs.Fields.{bits_of}
-use Rattle.rv32_decode.specs.declared.instruction.Instr.{Instr}
-use Rattle.rv32_decode.specs.declared.instruction.Instr.TheVariants as instr
-use Rattle.machine_types.specs.declared.model.MemoryModel.{MemoryModel}
+use Rattle.hart.specs.Fields.{bits_of}
+use Rattle.hart.specs.Instr.{Instr}
+use Rattle.hart.specs.InstrVariants as instr
+use Rattle.hart.specs.MemoryModel.{MemoryModel}
 use Rattle.memory_model.specs.declared.operation.Kind.{Kind}
 use Rattle.memory_model.specs.declared.operation.Operation.{Operation}
 use Rattle.memory_model.specs.Operations.{reads, writes, is_lr, is_sc, is_amo, precedes, addresses_of, touches, stores_to, overlap, has_acquire, has_release, has_rcsc}

@@ -1,13 +1,13 @@
 -- What is said of a whole trace: whether its lists are runs, which operations it has, and its orders.
 use Rattle.std.specs.Prelude.{ℕ, ◌+◌, Bool, true, false, ◌&&◌, not, ◌==◌, if◌then◌else◌, List, [], ◌∷◌, ◌++◌, Option, IsTrue, filter, length, option_and_then, slice_get}
 use Rattle.std.specs.List.{filter_map, list_all, list_any}
-use Rattle.elf_loader.specs.Image.{Initial, byte_at}
+use Rattle.hart.specs.Image.{Initial, byte_at}
 use Rattle.hart.specs.declared.retired.Retired.{Retired}
 use Rattle.hart.specs.declared.status.Status.{Status}
 use Rattle.hart.specs.Run.{is_run}
 use Rattle.trace_recorder.specs.History.{History}
 use Rattle.trace_recorder.specs.declared.operation.OpId.{OpId}
-use Rattle.machine_types.specs.declared.model.MemoryModel.{MemoryModel}
+use Rattle.hart.specs.MemoryModel.{MemoryModel}
 use Rattle.memory_model.specs.declared.operation.Operation.{Operation}
 use Rattle.memory_model.specs.Order.{last_write}
 use Rattle.memory_model.specs.Items.{Item, has_operation, items_of_harts}

@@ -3,7 +3,7 @@ use Rattle.std.specs.Prelude.{ℕ, Bool, ◌&&◌, not, ◌==◌, List, [], ◌�
 use Rattle.std.specs.List.{flat_map, list_any}
 use Rattle.trace_recorder.specs.History.{History}
 use Rattle.trace_recorder.specs.declared.operation.OpId.{OpId}
-use Rattle.machine_types.specs.declared.model.MemoryModel.{MemoryModel}
+use Rattle.hart.specs.MemoryModel.{MemoryModel}
 use Rattle.memory_model.specs.declared.operation.Operation.{Operation}
 use Rattle.memory_model.specs.Operations.{same}
 use Rattle.memory_model.specs.Order.{before}

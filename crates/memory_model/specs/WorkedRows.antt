@@ -1,10 +1,10 @@
 -- Whole runs of small programs: which lists and statuses are runs, what the completed order is, and how it is judged. x is the word at 0x80000100, y that at 0x80000200.
 use Rattle.std.specs.Prelude.{ℕ, ◌≡◌, Bool, true, false, List, [], ◌∷◌}
-use Rattle.elf_loader.specs.Image.{Initial}
+use Rattle.hart.specs.Image.{Initial}
 use Rattle.hart.specs.declared.status.Status.TheVariants.{Running, Stopped, Exited}
 use Rattle.trace_recorder.specs.History.{History}
 use Rattle.trace_recorder.specs.declared.operation.OpId.{OpId}
-use Rattle.machine_types.specs.declared.model.MemoryModel.TheVariants.{Rvwmo, Ztso}
+use Rattle.hart.specs.TheVariants.{Rvwmo, Ztso}
 use Rattle.memory_model.specs.Traces.{are_runs, completed, has_each_operation_once}
 use Rattle.memory_model.specs.Examples.{image_with, with_word, did, loaded, tried, op, trace, Passes, IsIllegal}
 

@@ -2,7 +2,7 @@
 ghost use Rattle.std.specs.Prelude.{◌≡◌};
 ghost use Rattle.memory_model.specs.Items.{annotations_of};
 
-use rv32_decode::{Annotations, Instr};
+use hart::rv32_decode::{Annotations, Instr};
 
 const NONE: Annotations = Annotations {
     acquire: false,

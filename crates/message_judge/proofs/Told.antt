@@ -9,7 +9,7 @@ use Rattle.elf_loader.specs.Image.{Initial}
 use Rattle.lawful_log.proofs.Entries.{beginning_lawful}
 use Rattle.lawful_log.specs.declared.rule.LogRule.{LogRule}
 use Rattle.lawful_log.specs.declared.rule.LogVerdict.TheVariants.{Lawful, Unlawful}
-use Rattle.machine_model.specs.LawfulLog.{IsLawfulLog}
+use Rattle.lawful_log.specs.LawfulLog.{IsLawfulLog}
 use Rattle.message_judge.specs.Laws.{IsCoherenceVerdict, IsLogVerdict, IsMessageVerdict}
 use Rattle.message_judge.specs.declared.verdict.MessageBreach.TheVariants as breaks
 use Rattle.message_judge.specs.declared.verdict.MessageVerdict.TheVariants as message

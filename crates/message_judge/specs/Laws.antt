@@ -8,7 +8,7 @@ use Rattle.elf_loader.specs.Image.{Initial}
 use Rattle.lawful_log.specs.Laws as order
 use Rattle.lawful_log.specs.declared.rule.LogVerdict.{LogVerdict}
 use Rattle.lawful_log.specs.declared.rule.LogVerdict.TheVariants.{Lawful}
-use Rattle.machine_model.specs.LawfulLog.{IsLawfulLog}
+use Rattle.lawful_log.specs.LawfulLog.{IsLawfulLog}
 use Rattle.message_judge.specs.declared.verdict.MessageBreach.{MessageBreach}
 use Rattle.message_judge.specs.declared.verdict.MessageBreach.TheVariants.{Incoherent, Unanswered, Unlawful}
 use Rattle.message_judge.specs.declared.verdict.MessageVerdict.{MessageVerdict}

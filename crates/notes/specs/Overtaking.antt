@@ -1,10 +1,10 @@
 -- Operations that are performed before one that precedes them in their hart's list.
 use Rattle.std.specs.Prelude.{ℕ, Bool, true, ◌&&◌, not, if◌then◌else◌, nat_lt, List, [], ◌∷◌, ◌++◌, Option, None, Some}
-use Rattle.memory_model.specs.Operations.{overlap, precedes}
-use Rattle.memory_model.specs.Traces.{instructions, operations_at}
-use Rattle.memory_model.specs.declared.operation.Kind.{Kind}
-use Rattle.memory_model.specs.declared.operation.Kind.TheVariants.{Load, Store, Lr, Sc, Amo}
-use Rattle.memory_model.specs.declared.operation.Operation.{Operation}
+use Rattle.rvwmo_order.specs.Operations.{overlap, precedes}
+use Rattle.rvwmo_order.specs.Traces.{instructions, operations_at}
+use Rattle.rvwmo_order.specs.Kind.{Kind}
+use Rattle.rvwmo_order.specs.TheVariants.{Load, Store, Lr, Sc, Amo}
+use Rattle.rvwmo_order.specs.Operation.{Operation}
 use Rattle.notes.specs.declared.overtaking.Overtaking.{Overtaking}
 use Rattle.rv32_decode.specs.declared.instruction.Instr.{Instr}
 use Rattle.rv32_decode.specs.declared.instruction.Instr.TheVariants as instr

@@ -1,8 +1,8 @@
 //! How many operations a trace has, where they are too many.
 
 use crate::operations::operations_of;
+use rvwmo_order::trace_operations::MAX_OPERATIONS;
 use std::fmt::{self, Display, Formatter};
-use trace_operations::MAX_OPERATIONS;
 use trace_recorder::Trace;
 
 /// How many memory operations a trace has that was refused as too long, and how many are judged.

@@ -1,7 +1,7 @@
 //! Which instructions of a trace have a memory operation.
 
 ghost use Rattle.std.specs.Prelude.{◌≡◌};
-ghost use Rattle.memory_model.specs.Items as spec;
+ghost use Rattle.rvwmo_order.specs.Items as spec;
 
 use hart::Retired;
 use rv32_decode::{Instr, decode};

@@ -2,13 +2,13 @@
 
 use crate::overtaking::Overtaking;
 use assembly::spell_assembly;
-use memory_model::Kind;
 use rv32_decode::{Instr, decode};
+use rvwmo_order::memory_model::Kind;
+use rvwmo_order::trace_operations::accesses::name_of;
 use rvwmo_order::{Code, Rule};
 use std::fmt::{self, Display, Formatter};
 use std::io::{self, ErrorKind, Write};
 use text_fields::Page;
-use trace_operations::accesses::name_of;
 use trace_recorder::{OpId, Trace};
 
 /// What the order of a trace breaks by a code, with the two operations that show it as HART:PLACE and as an

@@ -1,14 +1,14 @@
 //! Operations that are performed before one that precedes them in their hart's list.
 
 ghost use Rattle.std.specs.Prelude.{◌≡◌, ◌<◌, IfOk, None, Some, true};
-ghost use Rattle.memory_model.specs.Rules.{fences, is_in_set};
+ghost use Rattle.rvwmo_order.specs.MemoryModelRules.{fences, is_in_set};
 ghost use Rattle.notes.specs.Overtaking as spec;
 
-use memory_model::{Kind, Operation};
 use rv32_decode::{FenceSet, FenceSets, Instr};
+use rvwmo_order::memory_model::{Kind, Operation};
+use rvwmo_order::trace_operations::Index;
+use rvwmo_order::trace_operations::accesses::{overlap, precedes};
 use std::alloc::{AllocError, Global};
-use trace_operations::Index;
-use trace_operations::accesses::{overlap, precedes};
 use trace_recorder::Trace;
 
 /// Two operations of a hart without a common byte, of which the second is performed before the first, which precedes it.

@@ -10,8 +10,8 @@ ghost use Rattle.order_text.specs.Between.{IsBetween, IsPassed};
 use memory_model::{Kind, Operation};
 use rv32_decode::{FenceSet, Instr, Register};
 use rv32_exec::{address_register, destination, is_steering, other_registers, stored_register};
-use trace_operations::Items;
-use trace_operations::accesses::{reads, writes};
+use rvwmo_order::trace_operations::Items;
+use rvwmo_order::trace_operations::accesses::{reads, writes};
 
 /// What stands between two operations.
 #[derive(Clone, Copy)]

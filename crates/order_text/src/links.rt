@@ -8,8 +8,8 @@ ghost use Rattle.order_text.specs.Links as spec;
 use crate::line::{Line, Link};
 use crate::relations::Relations;
 use memory_model::{Kind, Operation};
+use rvwmo_order::trace_operations::accesses::{end_of, name_of, reads, writes};
 use std::alloc::AllocError;
-use trace_operations::accesses::{end_of, name_of, reads, writes};
 use trace_recorder::OpId;
 
 // What byte `x` of an operation is linked with.

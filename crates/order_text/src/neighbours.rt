@@ -12,9 +12,9 @@ use crate::rules::rules_between;
 use machine_types::MemoryModel;
 use memory_model::Operation;
 use rvwmo_order::Rule;
+use rvwmo_order::trace_operations::Items;
+use rvwmo_order::trace_operations::accesses::{name_of, precedes};
 use std::alloc::{AllocError, Global};
-use trace_operations::Items;
-use trace_operations::accesses::{name_of, precedes};
 
 /// The operations of a hart's list, in program order.
 pub(crate) fn operations_in(alloc: Global, items: &Items) -> Result<Vec<Operation>, AllocError>

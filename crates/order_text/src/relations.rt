@@ -10,10 +10,10 @@ ghost use Rattle.rvwmo_order.specs.Ranks.{HasRank, ranked};
 ghost use Rattle.order_text.specs.Links as links;
 
 use memory_model::Operation;
+use rvwmo_order::trace_operations::accesses::{is_same, name_of, precedes, stores_to};
+use rvwmo_order::trace_operations::{Places, places_in};
 use std::alloc::{AllocError, Global};
 use std::marker::Model;
-use trace_operations::accesses::{is_same, name_of, precedes, stores_to};
-use trace_operations::{Places, places_in};
 use trace_recorder::{OpId, Trace};
 
 /// An order of a trace's operations, with the place of each.
@@ -27,7 +27,7 @@ pub(crate) struct Relations {
 impl Model for Relations {
     ghost use Rattle.std.specs.Prelude.{◌≡◌, List};
     ghost use Rattle.memory_model.specs.declared.operation.Operation.{Operation as OperationValue};
-    ghost use Rattle.trace_operations.specs.Indexed.{known, number_in, place_from};
+    ghost use Rattle.rvwmo_order.specs.Indexed.{known, number_in, place_from};
 
     ghost Value = { List OperationValue };
 

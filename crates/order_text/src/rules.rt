@@ -15,12 +15,12 @@ use crate::relations::Relations;
 use machine_types::MemoryModel;
 use memory_model::Operation;
 use rvwmo_order::Rule;
-use std::alloc::{AllocError, Global};
-use trace_operations::Items;
-use trace_operations::accesses::{
+use rvwmo_order::trace_operations::Items;
+use rvwmo_order::trace_operations::accesses::{
     end_of, has_acquire, has_rcsc, has_release, is_amo, is_lr, is_same, is_sc, overlap, precedes,
     reads, stores_to, touches, writes,
 };
+use std::alloc::{AllocError, Global};
 
 /// All rules, in the order of their numbers.
 const RULES: [Rule; 13] = [

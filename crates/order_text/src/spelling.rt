@@ -15,9 +15,9 @@ use elf_symbols::Symbols;
 use machine_types::MemoryModel;
 use memory_model::{Kind, Operation};
 use rv32_decode::decode;
+use rvwmo_order::trace_operations::accesses::{is_amo, is_lr, is_sc, name_of, reads, writes};
 use rvwmo_order::{Code, Rule};
 use text_fields::Page;
-use trace_operations::accesses::{is_amo, is_lr, is_sc, name_of, reads, writes};
 use trace_recorder::OpId;
 
 // ---- fields

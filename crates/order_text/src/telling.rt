@@ -15,9 +15,9 @@ use crate::relations::Relations;
 use hart::Retired;
 use machine_types::MemoryModel;
 use memory_model::Operation;
+use rvwmo_order::trace_operations::{Harts, completed, operations_at};
 use rvwmo_order::{CheckError, Verdict, check_model};
 use std::alloc::{AllocError, Global};
-use trace_operations::{Harts, completed, operations_at};
 use trace_recorder::{OpId, Trace};
 
 /// What is told of a trace's order, its completed one, under a memory model: whether it is legal, the harts' lists with what is

@@ -2,17 +2,17 @@
 ghost use Rattle.std.specs.Prelude.{◌≡◌, ◌+◌, ◌/◌, ◌%◌, ◌^◌, ◌++◌, IfOk, IsTrue, OnOk, filter, map};
 ghost use Rattle.elf_loader.specs.Image as images;
 ghost use Rattle.flat_exploration.specs.Outcomes.{performed_word};
-ghost use Rattle.memory_model.specs.Operations as operations;
-ghost use Rattle.memory_model.specs.Order.{last_of, last_write};
+ghost use Rattle.trace_operations.specs.Operations as operations;
+ghost use Rattle.trace_operations.specs.Order.{last_of, last_write};
 ghost use Rattle.performed_words.specs.Behind.{word_behind};
 ghost use Rattle.performed_words.specs.Words.{are_aligned};
 
 use elf_loader::{BASE, Image};
-use memory_model::Operation;
 use std::alloc::{AllocError, Global};
 use trace_operations::Index;
 use trace_operations::accesses::stores_to;
-use trace_recorder::Trace;
+use trace_operations::memory_model::Operation;
+use trace_operations::trace_recorder::Trace;
 
 /// The last of these stores to the byte at this address.
 fn last_store(order: &[Operation], x: u64) -> Option<Operation>

@@ -4,7 +4,7 @@ use Rattle.std.proofs.lemmas.List.{length-append}
 use Rattle.std.specs.Prelude.{IsErrAnd}
 use Rattle.run_chart.specs.declared.rows.Note.{Note}
 use Rattle.run_chart.specs.declared.rows.Noted.{Noted}
-use Rattle.coherent_machine.specs.Machine.{Replayed, replayed_from}
+use Rattle.event_stream.specs.Machine.{Replayed, replayed_from}
 use Rattle.elf_loader.specs.Image.{Initial}
 use Rattle.machine_types.specs.declared.config.Config.{Config}
 use Rattle.machine_types.specs.declared.event.Event.{Event}

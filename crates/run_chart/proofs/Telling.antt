@@ -12,7 +12,7 @@ use Rattle.machine_model.specs.Events.{Verdict, happens, verdict}
 use Rattle.machine_model.specs.Events.Verdict.{IsBad, Keeps, IsLimited, Moves}
 use Rattle.machine_model.specs.Laws.{ChangesAreCounted}
 use Rattle.machine_model.specs.Views.{State}
-use Rattle.machine_parts.specs.Applying.{Answers}
+use Rattle.event_stream.specs.Applying.{Answers}
 use Rattle.run_chart.specs.declared.before.Before.{Before}
 use Rattle.run_chart.specs.declared.gathering.Gathered.{Gathered}
 use Rattle.run_chart.specs.Rows.{Told, before, is_shown, line_behind, report_since, row, row_between, rows_at, rows_by, rows_of, shown, told}

@@ -3,7 +3,7 @@ use Rattle.std.specs.Prelude.{ℕ, ◌≡◌, List, Option}
 use Rattle.std.specs.Io.KnownBytes.{Appends}
 use Rattle.run_chart.specs.Picture.{IsPicture}
 use Rattle.run_chart.specs.declared.rows.Story.{Story}
-use Rattle.coherent_machine.specs.Machine.{IsFirstRefusal}
+use Rattle.event_stream.specs.Machine.{IsFirstRefusal}
 use Rattle.elf_loader.specs.Image.{Initial}
 use Rattle.machine_model.specs.Views.{opening}
 use Rattle.machine_types.specs.declared.config.Config.{Config}

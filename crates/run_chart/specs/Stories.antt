@@ -1,6 +1,6 @@
 -- What a chart tells of a run.
 use Rattle.std.specs.Prelude.{ℕ, ◌≡◌, ◌⊎◌, ◌+◌, ◌<◌, ◌++◌, List, Option, Some, None, length, map}
-use Rattle.coherent_machine.specs.Machine.{IsFirstRefusal, Replayed, replayed_from}
+use Rattle.event_stream.specs.Machine.{IsFirstRefusal, Replayed, replayed_from}
 use Rattle.elf_loader.specs.Image.{Initial}
 use Rattle.machine_model.specs.Events.{happens}
 use Rattle.machine_model.specs.Views.{State, opening}

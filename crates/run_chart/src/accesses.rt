@@ -2,7 +2,7 @@
 ghost use Rattle.std.specs.Prelude.{◌≡◌};
 ghost use Rattle.run_chart.specs.Accesses as accesses;
 
-use coherent_machine::Machine;
+use event_stream::coherent_machine::Machine;
 use event_stream::next_address;
 use machine_types::Event;
 use tl_types::LineSize;

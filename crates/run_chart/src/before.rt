@@ -3,7 +3,7 @@ ghost use Rattle.std.specs.Prelude.{◌≡◌};
 ghost use Rattle.run_chart.specs.Rows as rows;
 
 use crate::accesses::address_at;
-use coherent_machine::{Machine, Views};
+use event_stream::coherent_machine::{Machine, Views};
 use event_stream::{Lengths, action_of, hart_of};
 use machine_types::Event;
 use rv32_exec::Action;

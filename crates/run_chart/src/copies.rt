@@ -9,7 +9,7 @@ use crate::row::MOST_ROWS;
 use crate::rows::Copied;
 use crate::shapes::Hold;
 use client_cache::{ClientCache, Held};
-use coherent_machine::Machine;
+use event_stream::coherent_machine::Machine;
 use std::alloc::{AllocError, Global};
 use trace_recorder::Logged;
 

@@ -1,6 +1,6 @@
 //! Why a run is not drawn.
 
-use coherent_machine::ReplayError;
+use event_stream::coherent_machine::ReplayError;
 use std::alloc::AllocError;
 use std::io::Error;
 

@@ -13,7 +13,7 @@ use crate::errors::RowError;
 use crate::notes::notes_of;
 use crate::posting::{end_of, noted, posts_of};
 use crate::rows::Row;
-use coherent_machine::Machine;
+use event_stream::coherent_machine::Machine;
 use event_stream::{Report, hart_of};
 use std::alloc::Global;
 use tl_types::LineSize;

@@ -1,5 +1,5 @@
 -- What a run by threads has done, and which faults it tells.
-use Rattle.coherent_machine.specs.Moves.{AreMoves}
+use Rattle.host_threads.specs.Moves.{AreMoves}
 use Rattle.command_files.specs.Composition.{IsComposition, Leads}
 use Rattle.command_files.specs.Ends.{ends_of}
 use Rattle.command_files.specs.Sizes.{config_of, IsInside, IsOutside, config_named}

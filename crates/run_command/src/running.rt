@@ -23,13 +23,13 @@ use elf_symbols::Symbols;
 use host_threads::{Gate, Report, RunError, run};
 use machine_traces::every_trace_has_a_text;
 use progress_line::{Progress, Stage};
+use script_commands::stop_text::StopNote;
 use script_commands::{NamedImage, named_image_in};
 use std::alloc::Global;
 use std::io::Write;
 use std::sync::Wait;
 use std::sync::atomic::{AtomicU64, Ordering};
 use std::thread::Threads;
-use stop_text::StopNote;
 use trace_recorder::Trace;
 use trace_text::{Script, write_script, write_trace};
 

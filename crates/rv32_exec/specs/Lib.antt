@@ -6,3 +6,6 @@ pub mod Actions
 pub mod Registers
 pub mod Uses
 pub mod Width
+pub use Rattle.elf_loader.specs.Size
+pub use Rattle.elf_loader.specs.Image
+pub use Rattle.amo_unit.specs.Amo

@@ -1,7 +1,7 @@
 -- The instruction meaning: what an instruction does, at a pc, with given registers (RISC-V Unprivileged ISA 20191213, chapters 2, 7 and 8), over whole numbers modulo 2^32.
 -- What calls mean, and the codes of stops, the manual leaves to the machine (chapter 2.8 and "Exceptions, Traps, and Interrupts", 1.6): those here are its own.
 use Rattle.std.specs.Prelude.{ℕ, ◌+◌, ◌-◌, ◌*◌, ◌%◌, ◌^◌, Bool, ◌||◌, ◌==◌, nat_lt, if◌then◌else◌, List, Option, Some, None, slice_index}
-use Rattle.machine_types.specs.declared.limits.TheConstants.{BASE}
+use Rattle.elf_loader.specs.TheConstants.{BASE}
 use Rattle.amo_unit.specs.Amo.{combined}
 use Rattle.rv32_decode.specs.Rows.{decoded}
 use Rattle.rv32_decode.specs.declared.instruction.AmoOp.{AmoOp}

@@ -13,7 +13,7 @@ use crate::arithmetic::is_taken;
 use crate::call::Call;
 use crate::registers::Regs;
 use crate::stop;
-use machine_types::BASE;
+use elf_loader::BASE;
 use rv32_decode::{Instr, LoadOp, StoreOp, SystemOp};
 
 /// What an instruction at `pc` will do, where memory has `size` bytes from 0x80000000 on.

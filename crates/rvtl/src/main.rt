@@ -5,9 +5,9 @@ mod streams;
 
 use crate::streams::{Messages, Output};
 use command_files::{Remarked, SystemFiles, WithInput};
+use command_line::run_program;
 use exit_codes::code_of;
 use notes::FileNote;
-use program_line::run_program;
 use progress_line::ProgressLine;
 use std::cell::Cell;
 use std::env;

@@ -16,8 +16,8 @@ use Rattle.memory_model.specs.Traces.{image_of, instructions, operations_at}
 use Rattle.memory_model.specs.Verdict.{Breaks, Code, codes}
 use Rattle.memory_model.proofs.Forms.{same-self}
 use Rattle.memory_model.proofs.Lists.{Contains-from_Member, Member}
-use Rattle.trace_recorder.specs.History.{History}
-use Rattle.trace_recorder.specs.declared.operation.OpId.{OpId}
+use Rattle.memory_model.specs.History.{History}
+use Rattle.memory_model.specs.OpId.{OpId}
 use Rattle.rvwmo_order.specs.Answers.{IsSoundVerdict}
 use Rattle.rvwmo_order.specs.Codes.{code_number}
 use Rattle.rvwmo_order.specs.Rules.{rule_of}

@@ -12,14 +12,14 @@ use Rattle.rv32_decode.specs.declared.instruction.LoadOp.TheVariants.{Lb, Lh, Lw
 use Rattle.rv32_decode.specs.declared.instruction.StoreOp.{StoreOp}
 use Rattle.rv32_decode.specs.declared.instruction.StoreOp.TheVariants.{Sb, Sh, Sw}
 use Rattle.rv32_decode.specs.declared.instruction.SystemOp.TheVariants.{Ecall, Ebreak}
-use Rattle.rv32_exec.specs.Arithmetic.{bytes_loaded, bytes_stored}
-use Rattle.rv32_exec.specs.Meaning.{Access, Private, Loads, Stores, DoesLr, DoesSc, DoesAmo, Fences, Calls, access_of}
+use Rattle.hart.specs.Arithmetic.{bytes_loaded, bytes_stored}
+use Rattle.hart.specs.Meaning.{Access, Private, Loads, Stores, DoesLr, DoesSc, DoesAmo, Fences, Calls, access_of}
 use Rattle.elf_loader.specs.Image.{Initial}
 use Rattle.hart.specs.declared.retired.Retired.{Retired}
 use Rattle.hart.specs.declared.state.Hart.{Hart}
 use Rattle.hart.specs.Run.{after, at_reset}
-use Rattle.trace_recorder.specs.History.{History}
-use Rattle.trace_recorder.specs.declared.operation.OpId.{OpId}
+use Rattle.memory_model.specs.History.{History}
+use Rattle.memory_model.specs.OpId.{OpId}
 use Rattle.memory_model.specs.declared.operation.Operation.{Operation}
 use Rattle.memory_model.specs.Items.{Item, annotations_of, items_from, items_of_harts, operation_of_access, operation_of_entry, succeeded}
 use Rattle.memory_model.specs.Rules.{items_of}

@@ -7,7 +7,7 @@ use Rattle.std.proofs.lemmas.List.{append_assoc}
 use Rattle.std.proofs.lemmas.List.Folds.{list_any-append}
 use Rattle.std.proofs.Math.Seq.{take-append_seam}
 use Rattle.std.proofs.lemmas.Map.Views.{any-filter_same}
-use Rattle.rv32_exec.specs.Uses.{Uses}
+use Rattle.hart.specs.Uses.{Uses}
 use Rattle.machine_types.specs.declared.model.MemoryModel.{MemoryModel}
 use Rattle.memory_model.specs.declared.operation.Operation.{Operation}
 use Rattle.memory_model.specs.Dependencies.{between, has_control_dependency, has_dependent_address_between, holds, sources, uses_at, uses_in, with_flags}

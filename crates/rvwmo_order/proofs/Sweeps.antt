@@ -6,7 +6,7 @@ use Rattle.std.proofs.lemmas.Bool.{and_right, cases_eq, cases_lt, le-ltb, lt-ltb
 use Rattle.std.proofs.lemmas.List.{drop-drop, drop-take, get_or-set_same, get_or-set_other, get_or-replicate, get_or_past, length-drop, length-set, length-replicate, length-take}
 use Rattle.std.proofs.lemmas.List.Folds.{list_any-append}
 use Rattle.std.proofs.lemmas.Option.{get_or_from_slice_get, none-some, same_Some, slice_get-get_or, slice_get_past}
-use Rattle.rv32_exec.specs.Uses.{Uses}
+use Rattle.hart.specs.Uses.{Uses}
 use Rattle.memory_model.specs.declared.operation.Operation.{Operation}
 use Rattle.memory_model.specs.Dependencies.{any_addresses, any_steers, between, has_address_dependency, has_control_dependency, has_data_dependency, has_dependent_address_between, held_after, held_behind, held_first, holds, instr_in, sources, steers, uses_at, uses_in, with_flags}
 use Rattle.memory_model.specs.Items.{Item}

@@ -8,8 +8,8 @@ use Rattle.memory_model.specs.declared.operation.Operation.{Operation}
 use Rattle.memory_model.specs.Items.{Item}
 use Rattle.memory_model.specs.Traces.{IsLegalOrder, image_of, instructions, is_among, is_distinct, has_each_operation_once, names_in, operations_at}
 use Rattle.memory_model.proofs.Named.{EachOnce, Pairwise-from_is_distinct, operations_distinct}
-use Rattle.trace_recorder.specs.History.{History}
-use Rattle.trace_recorder.specs.declared.operation.OpId.{OpId}
+use Rattle.memory_model.specs.History.{History}
+use Rattle.memory_model.specs.OpId.{OpId}
 use Rattle.memory_model.specs.Verdict.{fault_in}
 use Rattle.rvwmo_order.specs.Answers.{IsSoundVerdict, fault_told}
 use Rattle.rvwmo_order.specs.Scans.{judged}

@@ -5,8 +5,8 @@ use Rattle.memory_model.specs.declared.operation.Operation.{Operation}
 use Rattle.memory_model.specs.Traces.{are_runs, image_of, instructions, has_each_operation_once, names_in, operations_at}
 use Rattle.memory_model.specs.Verdict as verdict
 use Rattle.memory_model.specs.Verdict.{Breaks, name_of}
-use Rattle.trace_recorder.specs.History.{History}
-use Rattle.trace_recorder.specs.declared.operation.OpId.{OpId}
+use Rattle.memory_model.specs.History.{History}
+use Rattle.memory_model.specs.OpId.{OpId}
 use Rattle.rvwmo_order.specs.Codes.{code_number}
 use Rattle.rvwmo_order.specs.declared.error.CheckError.{CheckError}
 use Rattle.rvwmo_order.specs.declared.error.CheckError.TheVariants.{NotAnOrder, NotARun, TooLong}

@@ -4,7 +4,7 @@ use Rattle.std.specs.List.{AllByRecursion}
 use Rattle.std.specs.Option.{option_map_or}
 use Rattle.machine_types.specs.declared.model.MemoryModel.{MemoryModel}
 use Rattle.memory_model.specs.declared.operation.Operation.{Operation}
-use Rattle.rv32_exec.specs.Uses.{Uses}
+use Rattle.hart.specs.Uses.{Uses}
 use Rattle.memory_model.specs.Items.{Item}
 use Rattle.memory_model.specs.Operations.{has_rcsc, has_release, is_amo, is_lr, is_sc, reads, touches, writes}
 use Rattle.memory_model.specs.Order.{position_in, source}

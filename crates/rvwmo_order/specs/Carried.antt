@@ -1,7 +1,7 @@
 -- What a walk along a hart's list carries: weights of operations, in the registers that hold what came from them.
 use Rattle.std.specs.Prelude.{ℕ, max, if◌then◌else◌, List, [], ◌∷◌, Option, Some, None, replicate, slice_index_or, slice_set}
 use Rattle.rv32_decode.specs.declared.instruction.Instr.{Instr}
-use Rattle.rv32_exec.specs.Uses.{uses_of}
+use Rattle.hart.specs.Uses.{uses_of}
 use Rattle.memory_model.specs.Dependencies.{sources, steers}
 use Rattle.memory_model.specs.Items.{Item}
 use Rattle.rvwmo_order.specs.declared.bounds.carried.Carried.{Carried}

@@ -11,3 +11,11 @@ pub mod Scans
 pub mod Sourcing
 pub mod Sweeps
 pub mod Touched
+pub use Rattle.trace_operations.specs.Indexed
+pub use Rattle.memory_model.specs.Traces
+pub use Rattle.memory_model.specs.Items
+pub use Rattle.memory_model.specs.Rules as MemoryModelRules
+pub use Rattle.memory_model.specs.Operations
+pub use Rattle.memory_model.specs.declared.operation.Kind
+pub use Rattle.memory_model.specs.declared.operation.Kind.TheVariants
+pub use Rattle.memory_model.specs.declared.operation.Operation

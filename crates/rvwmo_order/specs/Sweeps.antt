@@ -1,7 +1,7 @@
 -- What an operation depends on through registers, found by one sweep back over its hart's list: the registers that are wanted are carried from it towards the list's front. The rules carry what came from an operation forward; both ways find the same.
 use Rattle.std.specs.Prelude.{ℕ, Bool, false, ◌&&◌, ◌||◌, not, ◌==◌, nat_lt, if◌then◌else◌, List, [], ◌∷◌, ◌++◌, Option, Some, None, filter}
 use Rattle.std.specs.List.{list_any}
-use Rattle.rv32_exec.specs.Uses.{Uses}
+use Rattle.hart.specs.Uses.{Uses}
 use Rattle.memory_model.specs.declared.operation.Operation.{Operation}
 use Rattle.memory_model.specs.Dependencies.{held_after, holds, sources, steers, uses_in}
 use Rattle.memory_model.specs.Items.{Item}

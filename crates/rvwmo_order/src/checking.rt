@@ -11,9 +11,9 @@ use crate::judging::judge;
 use crate::ranking::Ranking;
 use crate::verdict::Verdict;
 use machine_types::MemoryModel;
+use memory_model::trace_recorder::{OpId, Trace};
 use std::alloc::{AllocError, Global};
 use trace_operations::{Harts, are_runs, few_names, has_too_many, is_order, operations_at};
-use trace_recorder::{OpId, Trace};
 
 /// Whether an order of the operations of a trace is legal under RVWMO.
 pub fn check(alloc: Global, trace: &Trace, order: &[OpId]) -> Result<Verdict, CheckError>

@@ -23,10 +23,10 @@ use crate::verdict::{Code, RULES, Verdict};
 use elf_loader::Image;
 use machine_types::MemoryModel;
 use memory_model::Operation;
+use memory_model::trace_recorder::OpId;
 use std::alloc::{AllocError, Global};
 use trace_operations::Harts;
 use trace_operations::accesses::{end_of, is_same, is_sc, name_of, read_at, reads, stores_to};
-use trace_recorder::OpId;
 
 /// The verdict on an order of the operations of these lists, one a hart.
 pub(crate) fn judge(

@@ -11,11 +11,11 @@ ghost use Rattle.rvwmo_order.specs.Ranks.{AreDistinctOperations, GivesRanks, Has
 
 use crate::sourcing::sources_in;
 use memory_model::Operation;
+use memory_model::trace_recorder::{OpId, Trace};
 use std::alloc::{AllocError, Global};
 use std::marker::Model;
 use trace_operations::accesses::{is_same, name_of, precedes, reads, stores_to};
 use trace_operations::{Places, places_in};
-use trace_recorder::{OpId, Trace};
 
 /// An order of a trace's operations, made for judging it.
 #[derive(Drop)]

@@ -5,7 +5,7 @@ ghost use Rattle.std.specs.Prelude.{◌≡◌, ◌≤◌, ◌-◌, ◌++◌, OnO
 ghost use Rattle.std.specs.List.{list_any};
 ghost use Rattle.std.specs.Option.{option_to_list};
 ghost use Rattle.memory_model.specs.Order as orders;
-ghost use Rattle.rv32_exec.specs.Uses.{uses_of};
+ghost use Rattle.hart.specs.Uses.{uses_of};
 ghost use Rattle.memory_model.specs.Dependencies as dependencies;
 ghost use Rattle.memory_model.specs.Dependencies.{holds, uses_at, uses_in, with_flags};
 ghost use Rattle.rvwmo_order.specs.Marks as spec;
@@ -16,9 +16,11 @@ use crate::ranking::Ranking;
 use crate::rule::Rule;
 use crate::sources::is_same_source;
 use crate::uses::instr_at;
+use hart::rv32_exec::{
+    address_register, destination, is_steering, other_registers, stored_register,
+};
 use memory_model::Operation;
 use rv32_decode::{Instr, Register};
-use rv32_exec::{address_register, destination, is_steering, other_registers, stored_register};
 use std::alloc::{AllocError, Global};
 use trace_operations::accesses::{end_of, precedes, reads, writes};
 use trace_operations::{Item, Items, Stretch};

@@ -3,7 +3,7 @@ ghost use Rattle.std.specs.Prelude.{◌≡◌};
 ghost use Rattle.rvwmo_order.specs.Codes.{code_number};
 
 use crate::rule::Rule;
-use trace_recorder::OpId;
+use memory_model::trace_recorder::OpId;
 
 /// All rules, in the order of their numbers.
 pub(crate) const RULES: [Rule; 13] = [

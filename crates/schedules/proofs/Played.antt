@@ -12,7 +12,7 @@ use Rattle.machine_model.specs.Events.{Verdict, after_events, happens, state_by,
 use Rattle.machine_model.specs.Events.Verdict.{IsBad, Keeps, IsLimited, Moves}
 use Rattle.machine_model.specs.Laws.{ChangesAreCounted, KeepsImageAndConfig}
 use Rattle.machine_model.specs.Views.{State, opening}
-use Rattle.machine_parts.specs.Applying.{Answers}
+use Rattle.coherent_machine.specs.Applying.{Answers}
 use Rattle.schedules.specs.declared.errors.Fault.{Fault}
 use Rattle.schedules.specs.declared.schedule.Schedule.{Schedule}
 use Rattle.schedules.specs.Schedules.{AnswersAs, IsPlayed, LeadsThere}

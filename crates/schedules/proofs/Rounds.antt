@@ -8,7 +8,7 @@ use Rattle.hart.specs.declared.state.Hart.{Hart}
 use Rattle.machine_model.specs.Events.{after_events}
 use Rattle.machine_model.specs.Views.{State, node_at}
 use Rattle.machine_types.specs.declared.event.Event.{Event}
-use Rattle.trace_recorder.specs.History.{entries_of}
+use Rattle.machine_model.specs.History.{entries_of}
 use Rattle.schedules.specs.Schedules.{Leads}
 use Rattle.schedules.specs.Circles.{GoesRound}
 use Rattle.schedules.proofs.Leading.{leads_on, leads_nowhere}

@@ -2,7 +2,7 @@
 use Rattle.std.specs.Prelude.{◌≡◌, ◌<◌, ℕ, length}
 use Rattle.machine_model.specs.Views.{State, node_at}
 use Rattle.schedules.specs.Schedules.{Leads}
-use Rattle.trace_recorder.specs.History.{entries_of}
+use Rattle.machine_model.specs.History.{entries_of}
 
 -- from a state some events lead to where a hart stands at this address, and some more to where it has retired further instructions and stands there again, with the same registers
 pub record GoesRound (s : State) (hart pc : ℕ) : Type 0 where

@@ -10,8 +10,8 @@ use Rattle.machine_types.specs.declared.event.Event.{Event}
 use Rattle.machine_types.specs.declared.outcome.Outcome.{Outcome}
 use Rattle.machine_model.specs.Events.{Verdict, after_events}
 use Rattle.machine_model.specs.Views.{State, opening}
-use Rattle.machine_parts.specs.Applying.{Answers}
-use Rattle.machine_parts.specs.declared.errors.ApplyError.TheVariants.{BadEvent, Limit}
+use Rattle.coherent_machine.specs.Applying.{Answers}
+use Rattle.coherent_machine.specs.TheVariants.{BadEvent, Limit}
 use Rattle.schedules.specs.declared.errors.Fault.{Fault}
 use Rattle.schedules.specs.declared.errors.Fault.TheVariants as fault
 

@@ -4,7 +4,7 @@ ghost use Rattle.std.specs.Prelude.{◌≡◌, ◌<◌, All, IfOk, IfSome, IsTru
 ghost use Rattle.machine_model.specs.Views.{State, node_at};
 ghost use Rattle.schedules.specs.Circles.{GoesRound};
 ghost use Rattle.schedules.specs.Schedules.{Leads, led};
-ghost use Rattle.trace_recorder.specs.History.{entries_of};
+ghost use Rattle.machine_model.specs.History.{entries_of};
 
 use crate::errors::Fault;
 use crate::player::{MOST_HARTS, Player};

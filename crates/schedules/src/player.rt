@@ -32,7 +32,7 @@ pub(crate) struct Player {
 impl Model for Player {
     ghost use Rattle.schedules.specs.Schedules.{IsPlayed, Played};
     ghost use Rattle.std.specs.Coded.{codes};
-    ghost use Rattle.machine_parts.specs.Codes.{cache_coded};
+    ghost use Rattle.coherent_machine.specs.Codes.{cache_coded};
 
     ghost Value = { Played };
 

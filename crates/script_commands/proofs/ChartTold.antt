@@ -1,7 +1,7 @@
 -- Which faults a picture's parts hand up.
 use Rattle.std.proofs.Common.{◌≡◌, ◌∙◌, ◌⊎◌, ℕ, None, Option, Some, ap, inl, inr, refl, subst, sym}
 use Rattle.script_commands.specs.Charting.{IsChartFault, IsDrawingFault, IsNoAddress}
-use Rattle.coherent_machine.specs.declared.errors.ReplayError.TheVariants as refusals
+use Rattle.event_stream.specs.TheVariants as refusals
 use Rattle.command_files.specs.Faults.{IsImageFault, IsScriptFault, Name}
 use Rattle.command_files.specs.Files.{HoldsScript}
 use Rattle.command_files.specs.Contents.{Contents}

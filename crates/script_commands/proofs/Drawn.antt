@@ -1,8 +1,8 @@
 -- What of a picture went out before a last flush, and how its end is told.
 use Rattle.std.proofs.Common.{◌≡◌, ◌⊎◌, ℕ, List, Option, inl, inr, refl, subst, sym}
 use Rattle.std.specs.Io.KnownBytes.{Keeps}
-use Rattle.coherent_machine.specs.Machine.{IsFirstRefusal}
-use Rattle.coherent_machine.specs.declared.errors.ReplayError.TheVariants as refusals
+use Rattle.event_stream.specs.Machine.{IsFirstRefusal}
+use Rattle.event_stream.specs.TheVariants as refusals
 use Rattle.run_chart.specs.declared.sheet.TheConstants.{STYLE}
 use Rattle.script_commands.specs.Charting.{IsAddress, IsChartFault, IsDrawingFault, IsPictureCutOff}
 use Rattle.command_files.specs.Faults.{LeavesAtFault, Name}
@@ -15,7 +15,7 @@ use Rattle.command_files.proofs.Left.{spoiled}
 use Rattle.command_files.proofs.Written.{all_begun, kept_on}
 use Rattle.command_settings.specs.declared.wanted.Replay.{Replay}
 use Rattle.elf_loader.specs.Image.{Initial}
-use Rattle.machine_model.specs.Views.{opening}
+use Rattle.event_stream.specs.Views.{opening}
 use Rattle.machine_types.specs.declared.config.Config.{Config}
 use Rattle.machine_types.specs.declared.event.Event.{Event as AnEvent}
 use Rattle.run_chart.specs.Charts.{IsBegun, IsDrawn, IsUndrawn}

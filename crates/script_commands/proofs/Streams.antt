@@ -1,7 +1,7 @@
 -- What of a stream went out before a last flush, and how its end is told.
 use Rattle.std.proofs.Common.{◌≡◌, ◌⊎◌, ℕ, Bool, Err, IfErr, IsErrAnd, List, [], Ok, OnOk, Option, Result, ap, inl, inr, refl, subst, sym}
 use Rattle.std.specs.Io.KnownBytes.{Appends, Keeps}
-use Rattle.coherent_machine.specs.Machine.{Refuses}
+use Rattle.event_stream.specs.Machine.{Refuses}
 use Rattle.elf_loader.specs.Image.{Initial}
 use Rattle.event_stream.specs.Reports.{StreamEnding, ending}
 use Rattle.event_stream.specs.Streams.{stream_up_to}
@@ -11,10 +11,10 @@ use Rattle.event_stream.specs.declared.errors.StreamError.TheVariants as stream
 use Rattle.event_stream.specs.declared.strictness.Strictness.{Strictness}
 use Rattle.machine_types.specs.declared.config.Config.{Config}
 use Rattle.machine_types.specs.declared.event.Event.{Event}
-use Rattle.machine_model.specs.Events.{Verdict}
-use Rattle.machine_model.specs.Events.Verdict.{Keeps as Stays}
-use Rattle.machine_model.specs.Views.{State, opening}
-use Rattle.machine_parts.specs.declared.errors.ApplyError.TheVariants as applying
+use Rattle.event_stream.specs.Events.{Verdict}
+use Rattle.event_stream.specs.Verdict.{Keeps as Stays}
+use Rattle.event_stream.specs.Views.{State, opening}
+use Rattle.event_stream.specs.ApplyErrorVariants as applying
 use Rattle.text_fields.specs.Writing.{Begins}
 use Rattle.text_fields.proofs.Written.{appends_none, appends_then, begins_first, begins_then}
 use Rattle.trace_text.specs.declared.script.Script.{Script}

@@ -1,7 +1,7 @@
 -- What drawing a script has done, and which faults it tells.
 use Rattle.script_commands.specs.Addresses.{address}
 use Rattle.run_chart.specs.declared.sheet.TheConstants.{STYLE}
-use Rattle.coherent_machine.specs.declared.errors.ReplayError.TheVariants as refusals
+use Rattle.event_stream.specs.TheVariants as refusals
 use Rattle.command_files.specs.Faults.{IsReplayFault, Name}
 use Rattle.command_files.specs.Files.{HoldsImage, HoldsScript, IsTheScriptIn}
 use Rattle.command_files.specs.Contents.{Contents}
@@ -12,7 +12,7 @@ use Rattle.command_files.specs.declared.fault.Fault.{Fault}
 use Rattle.command_files.specs.declared.fault.Fault.TheVariants.{BadAddress, CannotWrite, Event, OutOfMemory, TooManyRows}
 use Rattle.command_settings.specs.declared.wanted.Replay.{Replay}
 use Rattle.elf_loader.specs.Image.{Initial}
-use Rattle.machine_parts.specs.declared.errors.ApplyError.{ApplyError}
+use Rattle.event_stream.specs.ApplyError.{ApplyError}
 use Rattle.run_chart.specs.Charts.{IsBegun, IsDrawn}
 use Rattle.run_chart.specs.Stories.{IsOverfull}
 use Rattle.run_chart.specs.declared.errors.ChartError.{ChartError}

@@ -1,5 +1,5 @@
 -- What an explanation has done, and which faults it tells.
-use Rattle.coherent_machine.specs.Machine.{Refuses}
+use Rattle.event_stream.specs.Machine.{Refuses}
 use Rattle.command_files.specs.Sizes.{config_of}
 use Rattle.command_files.specs.Files.{HoldsScript, IsTheScriptIn}
 use Rattle.command_files.specs.Contents.{Contents}
@@ -19,9 +19,9 @@ use Rattle.event_stream.specs.declared.errors.StreamError.TheVariants as stream
 use Rattle.event_stream.specs.declared.errors.StreamError.{StreamError}
 use Rattle.event_stream.specs.declared.strictness.Strictness.TheVariants.{Strict}
 use Rattle.event_stream.specs.declared.strictness.Strictness.{Strictness}
-use Rattle.machine_model.specs.Events.Verdict.{Keeps}
-use Rattle.machine_model.specs.Events.{Verdict}
-use Rattle.machine_model.specs.Views.{State, opening}
+use Rattle.event_stream.specs.Verdict.{Keeps}
+use Rattle.event_stream.specs.Events.{Verdict}
+use Rattle.event_stream.specs.Views.{State, opening}
 use Rattle.machine_types.specs.declared.config.Config.{Config}
 use Rattle.machine_types.specs.declared.event.Event.{Event}
 use Rattle.command_files.specs.Faults.{IsReplayFault, LeavesAtFault}

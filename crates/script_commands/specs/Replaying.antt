@@ -5,7 +5,7 @@ use Rattle.command_files.specs.Files.{HoldsImage, HoldsScript, IsTheScriptIn}
 use Rattle.command_files.specs.Contents.{Contents}
 use Rattle.command_settings.specs.declared.wanted.Replay.{Replay}
 use Rattle.elf_loader.specs.Image.{Initial}
-use Rattle.machine_model.specs.Views.{State}
+use Rattle.event_stream.specs.Views.{State}
 use Rattle.std.specs.Prelude.{ℕ, List, Option}
 use Rattle.text_fields.specs.Writing.{Begins}
 use Rattle.trace_text.specs.Traces.{text}

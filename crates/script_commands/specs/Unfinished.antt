@@ -1,10 +1,10 @@
 -- What went out of a replay that is not whole.
 use Rattle.std.specs.Prelude.{ℕ, ◌≡◌, List, Option}
-use Rattle.coherent_machine.specs.Machine.{IsFirstRefusal}
+use Rattle.event_stream.specs.Machine.{IsFirstRefusal}
 use Rattle.command_files.specs.Composition.{Leads}
 use Rattle.command_files.specs.Sizes.{config_of}
 use Rattle.elf_loader.specs.Image.{Initial}
-use Rattle.machine_model.specs.Views.{State, opening}
+use Rattle.event_stream.specs.Views.{State, opening}
 use Rattle.machine_types.specs.declared.model.MemoryModel.{MemoryModel}
 use Rattle.script_commands.specs.declared.replay.composing.CompositionError.{CompositionError}
 use Rattle.script_commands.specs.declared.replay.composing.CompositionError.TheVariants as errors

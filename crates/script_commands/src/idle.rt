@@ -2,8 +2,8 @@
 
 ghost use Rattle.std.specs.Prelude.{◌≡◌};
 
-use coherent_machine::Machine;
 use command_files::{Files, remark};
+use event_stream::coherent_machine::Machine;
 use event_stream::outcome_name;
 use machine_types::{Config, Event, Outcome};
 use std::alloc::Global;

@@ -2,10 +2,10 @@
 -- (TileLink 1.8.1, "Channels": messages of one channel arrive in the order in which they were sent).
 use Rattle.std.specs.Prelude.{ℕ, ◌+◌, ◌-◌, ◌*◌, List, [], ◌∷◌, ◌++◌, Option, Some, None}
 use Rattle.machine_types.specs.declared.limits.TheConstants.{MAX_HARTS, TRACKERS}
-use Rattle.tl_types.specs.declared.message.Channel.{Channel}
-use Rattle.tl_types.specs.declared.message.Channel.TheVariants.{A, B, C, D, E}
-use Rattle.tl_types.specs.declared.message.Msg.{Msg}
-use Rattle.tl_types.specs.Message.{channel_of}
+use Rattle.machine_types.specs.Channel.{Channel}
+use Rattle.machine_types.specs.TheVariants.{A, B, C, D, E}
+use Rattle.machine_types.specs.Msg.{Msg}
+use Rattle.machine_types.specs.Message.{channel_of}
 
 pub record Waiting : Type 0 where
   pub a : List Msg

@@ -1,13 +1,13 @@
 //! The five queues of a hart.
 ghost use Rattle.std.specs.Prelude.{◌≡◌, ◌<◌, ◌↔◌, length, slice_get, IfOk, IsTrue};
-ghost use Rattle.tl_types.specs.Message.{channel_of};
+ghost use Rattle.machine_types.specs.Message.{channel_of};
 ghost use Rattle.tilelink_channels.specs.Queues.{none_waiting, room_of, queue_of, front_of, pushed, popped};
 
+use machine_types::tl_types::{Channel, Msg};
 use machine_types::{MAX_HARTS, TRACKERS};
 use std::alloc::{AllocError, Global};
 use std::collections::VecDeque;
 use std::marker::Model;
-use tl_types::{Channel, Msg};
 
 /// A Probe for each Acquire of each other hart.
 const PROBES: usize = TRACKERS * (MAX_HARTS as usize - 1);
@@ -38,7 +38,7 @@ impl Model for Queues {
     ghost use Rattle.std.specs.Prelude.{◌≤◌};
     ghost use Rattle.std.specs.VecDeque.{deque_capacity};
     ghost use Rattle.tilelink_channels.specs.Queues.{Waiting, room_of};
-    ghost use Rattle.tl_types.specs.declared.message.Channel.TheVariants.{A, B, C, D, E};
+    ghost use Rattle.machine_types.specs.TheVariants.{A, B, C, D, E};
 
     ghost Value = { Waiting };
 

@@ -9,7 +9,7 @@ use Rattle.command_files.specs.Status.{status_of}
 use Rattle.command_files.specs.declared.fault.Fault.{Fault}
 use Rattle.command_files.specs.declared.fault.Fault.TheVariants.{BadAddress, BadEvent, BytesAfterTrace, CannotMake, CannotRead, CannotShow, CannotWrite, Check, Configuration, Event, Image, Mismatch, NoThread, NothingHappens, OtherImage, OutOfMemory, Text, TooManyRows}
 use Rattle.command_settings.specs.declared.wanted.Replay.{Replay}
-use Rattle.event_stream.specs.declared.strictness.Strictness.{Strictness}
+use Rattle.command_files.specs.Strictness.{Strictness}
 use Rattle.script_commands.proofs.ExplainTold.{explain_never_misused}
 use Rattle.script_commands.specs.Explaining.{IsExplainFault, LeavesOfStream}
 use Rattle.elf_symbols.specs.Named.{Named}

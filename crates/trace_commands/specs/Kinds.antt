@@ -5,7 +5,7 @@ use Rattle.command_files.specs.Contents.{Contents, HoldsBytes}
 use Rattle.command_files.specs.Faults.{IsTextFault}
 use Rattle.command_files.specs.declared.fault.Fault.{Fault}
 use Rattle.command_settings.specs.declared.wanted.Replay.{Replay}
-use Rattle.event_stream.specs.declared.strictness.Strictness.{Strictness}
+use Rattle.command_files.specs.Strictness.{Strictness}
 use Rattle.script_commands.specs.Explaining.{IsExplained, IsExplainFault, IsStreamCutOff}
 use Rattle.trace_commands.specs.Orders.{IsOrderCutOff, IsOrderFault, IsOrderTold}
 

@@ -7,9 +7,9 @@ ghost use Rattle.trace_commands.specs.Kinds as spec;
 ghost use Rattle.trace_commands.specs.Kinds.{IsHalfTold, IsTellingFault, IsTold};
 
 use crate::explaining::explain_trace;
+use command_files::event_stream::Strictness;
 use command_files::{Fault, Files, text_in};
 use command_settings::Replay;
-use event_stream::Strictness;
 use script_commands::explain_script;
 use std::alloc::Global;
 use std::io::Write;

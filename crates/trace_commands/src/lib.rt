@@ -6,4 +6,5 @@ mod explaining;
 mod image;
 mod kinds;
 
+pub use check_command as check_command;
 pub use kinds::explain_files;

@@ -4,7 +4,7 @@ use Rattle.std.specs.List.{cons_option, filter_map}
 use Rattle.std.proofs.lemmas.List.{append_assoc, at_drop_all, at_drop_more, take_rest}
 use Rattle.hart.specs.declared.retired.Retired.{Retired}
 use Rattle.hart.specs.declared.state.Hart.{Hart}
-use Rattle.elf_loader.specs.Image.{Initial}
+use Rattle.hart.specs.Image.{Initial}
 use Rattle.hart.specs.declared.status.Status.{Status}
 use Rattle.hart.specs.Run.{after, are_steps, is_step, reached, status_fits}
 use Rattle.memory_model.specs.Items.{Item, has_operation, item_of, items_from}

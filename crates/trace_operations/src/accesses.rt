@@ -2,9 +2,9 @@
 ghost use Rattle.std.specs.Prelude.{◌≡◌, ◌≤◌, ◌<◌, ◌+◌, ◌*◌, ◌/◌, ◌%◌, ◌^◌, min};
 ghost use Rattle.memory_model.specs.Operations as spec;
 ghost use Rattle.memory_model.specs.Verdict as verdict;
-ghost use Rattle.elf_loader.specs.Image as images;
+ghost use Rattle.hart.specs.Image as images;
 
-use elf_loader::{BASE, Image};
+use hart::elf_loader::{BASE, Image};
 use machine_types::MemoryModel;
 use memory_model::{Kind, Operation};
 use trace_recorder::OpId;

@@ -1,12 +1,12 @@
 //! Whether lists of retired instructions are runs: each hart's own meaning of its instructions, whatever
 //! the other harts do (chapters 2, 7 and 8).
 ghost use Rattle.std.specs.Prelude.{◌≡◌, ◌&&◌};
-ghost use Rattle.elf_loader.specs.Size.{IsMemorySize};
+ghost use Rattle.hart.specs.Size.{IsMemorySize};
 ghost use Rattle.hart.specs.Run as spec;
 ghost use Rattle.rv32_decode.specs.Rows.{decoded};
 ghost use Rattle.memory_model.specs.Traces.{are_runs as spec_are_runs};
 
-use elf_loader::Image;
+use hart::elf_loader::Image;
 use hart::{Hart, Retired, Status, can_fetch};
 use rv32_decode::{Instr, decode};
 use trace_recorder::Trace;

@@ -5,7 +5,7 @@ use Rattle.std.specs.List.{All}
 use Rattle.std.proofs.lemmas.List.Elements.{All-map, All-set}
 use Rattle.std.proofs.lemmas.Grind.{common_steps}
 use Rattle.std.proofs.Math.Seq.{map-set_same}
-use Rattle.machine_types.specs.declared.limits.TheConstants.{MAX_ENTRIES}
+use Rattle.hart.specs.TheConstants.{MAX_ENTRIES}
 use Rattle.hart.specs.declared.retired.Retired.{Retired}
 use Rattle.trace_recorder.specs.History.{History}
 use Rattle.trace_recorder.specs.Limits.{AreWithinLimits, IsWithinLimits}

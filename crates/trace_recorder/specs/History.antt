@@ -1,6 +1,6 @@
 -- What is kept of a run, as lists that grow at their ends.
 use Rattle.std.specs.Prelude.{ℕ, ◌-◌, List, [], ◌∷◌, ◌++◌, slice_index, slice_index_or, slice_set, replicate}
-use Rattle.elf_loader.specs.Image.{Initial}
+use Rattle.hart.specs.Image.{Initial}
 use Rattle.hart.specs.declared.retired.Retired.{Retired}
 use Rattle.hart.specs.declared.status.Status.{Status}
 use Rattle.hart.specs.declared.status.Status.TheVariants.{Running}

@@ -1,7 +1,7 @@
 -- How large a trace may be.
 use Rattle.std.specs.Prelude.{◌≤◌, All, List, length}
 use Rattle.std.specs.Global.{Vec}
-use Rattle.machine_types.specs.declared.limits.TheConstants.{MAX_ENTRIES, MAX_HARTS}
+use Rattle.hart.specs.TheConstants.{MAX_ENTRIES, MAX_HARTS}
 use Rattle.hart.specs.declared.retired.Retired.{Retired}
 use Rattle.trace_recorder.specs.History.{History}
 

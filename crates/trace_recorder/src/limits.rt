@@ -3,7 +3,7 @@ ghost use Rattle.std.specs.Prelude.{◌↔◌, IsTrue};
 ghost use Rattle.trace_recorder.specs.Limits.{AreWithinLimits};
 
 use hart::Retired;
-use machine_types::{MAX_ENTRIES, MAX_HARTS};
+use hart::machine_types::{MAX_ENTRIES, MAX_HARTS};
 
 /// Whether lists of retired instructions, one a hart, are no larger than a trace's can be: at most
 /// `MAX_HARTS`, each of at most `MAX_ENTRIES` instructions.

@@ -1,13 +1,13 @@
 //! The trace of a run. Its lists only grow.
 ghost use Rattle.std.specs.Prelude.{◌≡◌, ◌+◌, ◌-◌, ◌<◌, ◌≤◌, [], ◌∷◌, ◌++◌, All, length, map, replicate, IfOk, OnOk, IsOk, slice_get, slice_index, Some};
-ghost use Rattle.elf_loader.specs.Image.{Initial};
-ghost use Rattle.machine_types.specs.declared.limits.TheConstants.{MAX_ENTRIES, MAX_HARTS};
+ghost use Rattle.hart.specs.Image.{Initial};
+ghost use Rattle.hart.specs.TheConstants.{MAX_ENTRIES, MAX_HARTS};
 ghost use Rattle.trace_recorder.specs.History.{Recorded, opening, listed, performed, logged, halted, entries_of};
 ghost use Rattle.trace_recorder.specs.Limits.{AreWithinLimits, IsWithinLimits};
 
 use crate::logged::{Direction, Logged};
 use crate::operation::OpId;
-use elf_loader::Image;
+use hart::elf_loader::Image;
 use hart::{Retired, Status};
 use std::alloc::{AllocError, Global};
 use std::marker::Model;

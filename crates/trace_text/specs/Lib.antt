@@ -18,3 +18,7 @@ pub mod TraceRefusals
 pub mod TraceStops
 pub mod AnyLines
 pub mod AnyLineReading
+pub use Rattle.trace_recorder.specs.History
+pub use Rattle.trace_recorder.specs.declared.operation.OpId
+pub use Rattle.trace_recorder.specs.declared.logged.Logged
+pub use Rattle.trace_recorder.specs.declared.logged.Direction.TheVariants

@@ -29,7 +29,7 @@ use Rattle.rv32_exec.specs.Width.{byte_count}
 use Rattle.rv32_exec.specs.declared.actions.Action.{Action}
 use Rattle.rv32_exec.specs.declared.actions.Action.TheVariants as action
 use Rattle.rv32_exec.specs.declared.actions.Width.{Width}
-use Rattle.witnesses.specs.Outcomes.{number_out}
+use Rattle.window_model.specs.Outcomes.{number_out}
 use Rattle.window_machine.specs.declared.access.Access as code
 use Rattle.window_machine.specs.Acting.{is_of}
 use Rattle.window_machine.specs.Asking.{IsNext, does, done_by, first_byte, retired_by, retired_with}

@@ -31,3 +31,4 @@ pub mod Storing
 pub mod Unpairing
 pub mod Uses
 pub mod Within
+pub mod Circling

@@ -17,3 +17,4 @@ pub mod Showing
 pub mod Smaller
 pub mod Stores
 pub mod Windows
+pub mod CircleLaws

@@ -17,7 +17,7 @@ use machine_types::MemoryModel;
 use memory_model::{Kind, annotations};
 use rv32_decode::{AmoOp, Annotations, Instr, decode};
 use rv32_exec::{Action, Width, plan, stop};
-use trace_operations::accesses::{reads, writes};
+use window_model::trace_operations::accesses::{reads, writes};
 
 /// An access that a hart stands before: its bytes as lanes of the aligned word that they lie in.
 #[derive(Clone, Copy)]

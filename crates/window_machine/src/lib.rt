@@ -4,6 +4,7 @@
 
 mod access;
 mod admitting;
+mod circle_laws;
 mod fetch;
 mod joining;
 mod lessening;
@@ -23,6 +24,7 @@ mod waits;
 mod window;
 
 pub use access::Access;
+pub use circle_laws::{circles_never_end, circles_never_run, circles_place_nothing};
 pub use fetch::Fetch;
 pub use memory::{Patch, Store, image_word, set_word, word_in};
 pub use node::Node;

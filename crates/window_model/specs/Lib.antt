@@ -10,3 +10,15 @@ pub mod Reserving
 pub mod Systems
 pub mod Waiting
 pub mod Waits
+pub mod Closing
+pub mod Covering
+pub mod Guessing
+pub mod ReductionLaws
+pub mod Lessening
+pub mod Simulating
+pub mod Following
+pub mod GuessLaws
+pub mod Seeing
+pub use Rattle.witnesses.specs.Outcomes
+pub use Rattle.witnesses.specs.Witnesses
+pub use Rattle.flat_exploration.specs.Shown

@@ -2,7 +2,7 @@
 use Rattle.std.specs.Prelude.{ℕ, ◌≡◌, Bool, true, false, ◌||◌, ◌==◌, List, [], ◌∷◌, Some, map, slice_get, slice_set}
 use Rattle.std.specs.List.{range_with_len}
 use Rattle.elf_loader.specs.Image.{Initial, byte_at}
-use Rattle.flat_model.specs.Shown.{HartEnd}
+use Rattle.flat_exploration.specs.Shown.{HartEnd}
 use Rattle.hart.specs.declared.retired.Retired.{Retired}
 use Rattle.hart.specs.declared.state.Hart.{Hart}
 use Rattle.hart.specs.declared.status.Status.{Status}

@@ -6,7 +6,7 @@ use Rattle.elf_loader.specs.Image.{Initial}
 use Rattle.flat_model.specs.Shown.{told}
 use Rattle.hart.specs.declared.retired.Retired.{Retired}
 use Rattle.machine_types.specs.declared.config.Config.{Config}
-use Rattle.memory_model.specs.Traces.{names_in}
+use Rattle.rvwmo_order.specs.Traces.{names_in}
 use Rattle.std.specs.Global.{Vec}
 use Rattle.trace_recorder.proofs.Lists.{history_within}
 use Rattle.trace_recorder.specs.History.{History}

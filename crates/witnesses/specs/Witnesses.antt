@@ -7,7 +7,7 @@ use Rattle.hart.specs.declared.status.Status.{Status}
 use Rattle.hart.specs.Run.{is_running}
 use Rattle.machine_types.specs.declared.config.Config.{Config}
 use Rattle.machine_types.specs.declared.model.MemoryModel.{MemoryModel}
-use Rattle.memory_model.specs.Traces.{IsLegalOrder, IsOrder, are_runs, names_in}
+use Rattle.rvwmo_order.specs.Traces.{IsLegalOrder, IsOrder, are_runs, names_in}
 use Rattle.trace_recorder.specs.History.{History}
 use Rattle.trace_recorder.specs.Limits.{AreWithinLimits, IsWithinLimits}
 use Rattle.witnesses.specs.Outcomes.{results_of}

@@ -1,7 +1,7 @@
 //! Which runs are witnesses.
 ghost use Rattle.std.specs.Prelude.{◌≡◌, ◌↔◌, ◌≤◌, None, IfOk, IfSome, IsTrue, length};
 ghost use Rattle.std.specs.List.{list_all};
-ghost use Rattle.memory_model.specs.Traces.{names_in};
+ghost use Rattle.rvwmo_order.specs.Traces.{names_in};
 ghost use Rattle.witnesses.specs.Witnesses.{CanBeJudged, IsAllowed, IsWholeRun, IsWitness, has_ended, history_of};
 
 use crate::results::results_of;

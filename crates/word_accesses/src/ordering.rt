@@ -1,11 +1,11 @@
 //! Which waiting stores an instruction has to wait for.
 ghost use Rattle.std.specs.Prelude.{◌≡◌, Some};
 ghost use Rattle.machine_model.specs.Steps as spec;
-ghost use Rattle.memory_model.specs.declared.operation.Kind.TheVariants.{Load, Store};
-ghost use Rattle.memory_model.specs.Rules.{fences};
+ghost use Rattle.machine_model.specs.TheVariants.{Load, Store};
+ghost use Rattle.machine_model.specs.Rules.{fences};
 
+use machine_model::memory_model::annotations;
 use machine_types::MemoryModel;
-use memory_model::annotations;
 use rv32_decode::Instr;
 use store_buffer::StoreBuffer;
 

@@ -1,10 +1,10 @@
 //! The word that an access lies in, and its bytes there.
 ghost use Rattle.std.specs.Prelude.{◌≡◌, ◌<◌, ◌*◌, ◌%◌, ◌^◌};
 ghost use Rattle.machine_model.specs.Words.{word_of, read_from, store_of};
-ghost use Rattle.rv32_exec.specs.Width.{byte_count};
+ghost use Rattle.machine_model.specs.Width.{byte_count};
 ghost use Rattle.store_buffer.specs.ByteMask.{marks_of_access};
 
-use rv32_exec::Width;
+use machine_model::rv32_exec::Width;
 use store_buffer::{ByteMask, Store};
 
 /// The address of the aligned word that an address lies in.

@@ -8,18 +8,18 @@ ghost use Rattle.architecture_outcomes.specs.Text.{architecture_text};
 ghost use Rattle.exploration_text.specs.Words.{end_text};
 ghost use Rattle.flat_model.specs.Shown.{told};
 ghost use Rattle.state_search.specs.declared.findings.Extent.TheVariants as extent;
-ghost use Rattle.window_search.specs.declared.left_out.Reach.TheVariants as reach;
+ghost use Rattle.architecture_outcomes.specs.TheVariants as reach;
 
 use crate::architecture::keeping::keep_outcomes;
 use crate::findings::Findings;
 use crate::keeping::{Folder, Keepable};
+use architecture_outcomes::window_search::Reach;
 use architecture_outcomes::{Architecture, Outcome, text_of};
 use command_files::{Fault, Files};
 use exploration_text::{WordName, end_text};
 use flat_model::HartResult;
 use state_search::Extent;
 use std::alloc::{AllocError, Global};
-use window_search::Reach;
 
 /// What a search under a memory model found, and what lines call the words of memory.
 #[derive(Drop)]

@@ -7,7 +7,7 @@ ghost use Rattle.explore_command.specs.Telling.{AreRemarked};
 ghost use Rattle.command_files.specs.Sizes.{IsOutside};
 ghost use Rattle.explore_command.specs.Exploring.{ComesBeforeScripts, LeavesPart};
 ghost use Rattle.explore_command.specs.Keeping.{SparesOthers};
-ghost use Rattle.performed_words.specs.Words.{CanShowEach};
+ghost use Rattle.explorer.specs.Words.{CanShowEach};
 
 use crate::architecture::allowed::Searched;
 use crate::architecture::telling::remarks_on;

@@ -7,7 +7,7 @@ ghost use Rattle.explore_command.specs.Exploring.{IsAllowFile};
 ghost use Rattle.explore_command.specs.Asking.{HasProgram, HasProgramBy, IsAskingFault};
 ghost use Rattle.explore_command.specs.Keeping.{HasName};
 ghost use Rattle.explore_command.specs.Targets.{names_of};
-ghost use Rattle.performed_words.specs.Words.{CanShowEach};
+ghost use Rattle.explorer.specs.Words.{CanShowEach};
 
 use crate::asked::allow_file;
 use crate::keeping::check_folder;

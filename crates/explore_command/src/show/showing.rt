@@ -8,7 +8,7 @@ ghost use Rattle.explore_command.specs.Exploring.{ComesBeforeScripts, IsFoundIn,
 ghost use Rattle.explore_command.specs.Judging.{IsToldBy};
 ghost use Rattle.explore_command.specs.Keeping.{IsScriptFile, SparesOthers};
 ghost use Rattle.explore_command.specs.Showing.{IsElsewhere, IsFirstOf, IsShowFault, AreWordsShown, WordRefusals, WordsHave};
-ghost use Rattle.performed_words.specs.Words.{CanShowEach};
+ghost use Rattle.explorer.specs.Words.{CanShowEach};
 ghost use Rattle.text_fields.specs.Writing.{Begins};
 
 use crate::exploring::Telling;

@@ -5,16 +5,16 @@ ghost use Rattle.elf_loader.specs.Size.{base};
 ghost use Rattle.flat_machine.specs.Memory.{patched};
 ghost use Rattle.flat_model.specs.Flat.{byte_in};
 ghost use Rattle.flat_model.specs.Shown.{HoldsPerformed};
-ghost use Rattle.memory_model.specs.Operations.{stores_to, written_at};
-ghost use Rattle.memory_model.specs.Order.{last_write};
+ghost use Rattle.flat_model.specs.Operations.{stores_to, written_at};
+ghost use Rattle.flat_model.specs.Order.{last_write};
 
 use elf_loader::{BASE, Image};
 use flat_machine::Patch;
-use memory_model::Operation;
+use flat_model::memory_model::Operation;
 use performed_words::byte_of;
+use performed_words::trace_operations::Index;
+use performed_words::trace_operations::accesses::writes;
 use std::alloc::{AllocError, Global};
-use trace_operations::Index;
-use trace_operations::accesses::writes;
 use trace_recorder::Trace;
 
 /// A byte of memory is written, if there is one at this address.

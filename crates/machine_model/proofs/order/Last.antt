@@ -33,7 +33,7 @@ use Rattle.memory_model.specs.Operations.{byte_of_number as number_byte, stores_
 use Rattle.memory_model.specs.Order.{byte_from}
 use Rattle.memory_model.specs.Traces.{image_of, last_performed}
 use Rattle.memory_model.proofs.Lists.{Each-weaker, filter_same, filter_none}
-use Rattle.amo_unit.specs.Amo.{combined}
+use Rattle.rv32_exec.specs.Amo.{combined}
 use Rattle.rv32_decode.specs.Rows.{decoded}
 use Rattle.rv32_decode.specs.declared.instruction.Annotations.{Annotations}
 use Rattle.rv32_decode.specs.declared.instruction.Instr.{Instr}

@@ -1,7 +1,7 @@
 //! What the manager does with a message that it has taken.
 
 ghost use Rattle.std.specs.Prelude.{◌≡◌, ◌≢◌, ◌<◌, ◌≤◌, All, length};
-ghost use Rattle.backing_memory.specs.Memory.{line_data};
+ghost use Rattle.machine_model.specs.Memory.{line_data};
 ghost use Rattle.directory.specs.Directory.{SendsToHarts, acquired};
 ghost use Rattle.elf_loader.specs.Size.{base};
 ghost use Rattle.machine_model.specs.Deliveries.{grant_body, line_in_memory, on_acquire, on_grant_ack, on_probe_ack, on_release, sent_any, sent_grant, sent_probes};
@@ -15,8 +15,8 @@ ghost use Rattle.tl_types.specs.Permission.{left_by};
 use super::messages::send;
 use crate::lines::place_of;
 use crate::parts::Parts;
-use backing_memory::Memory;
 use directory::{Acquired, Grant, HartSet, Sent};
+use machine_model::backing_memory::Memory;
 use tl_types::{Body, Cap, Change, Grow, LineData, Msg, Perm};
 
 /// Data that came with a message go to memory.

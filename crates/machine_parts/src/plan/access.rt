@@ -4,17 +4,17 @@ ghost use Rattle.machine_model.specs.Steps as spec;
 ghost use Rattle.machine_model.specs.Words.{read_from};
 ghost use Rattle.machine_model.specs.declared.act.Deed.TheVariants as deed;
 ghost use Rattle.machine_parts.specs.Accesses.{fetched_of};
-ghost use Rattle.rv32_exec.specs.Width.{byte_count};
+ghost use Rattle.hart.specs.Width.{byte_count};
 
 use super::miss::{reading, writing};
 use crate::lines::word_in;
 use crate::node::Node;
 use amo_unit::combine;
 use hart::Retired;
+use hart::rv32_exec::{Call, Width};
 use machine_model::{Act, Deed, Plan};
 use machine_types::{Config, MemoryModel, Outcome};
 use rv32_decode::{AmoOp, Instr};
-use rv32_exec::{Call, Width};
 use word_accesses::{
     marks_of, orders_after_stores, read_from, store_of, waits_for_stores, word_of, write_waits,
 };

@@ -6,7 +6,7 @@ ghost use Rattle.hart.specs.Run.{next_stop};
 ghost use Rattle.machine_model.specs.Steps as spec;
 ghost use Rattle.machine_parts.specs.Accesses.{fetched_of};
 ghost use Rattle.rv32_decode.specs.Rows.{decoded};
-ghost use Rattle.rv32_exec.specs.Meaning.{access_of, stop_of};
+ghost use Rattle.hart.specs.Meaning.{access_of, stop_of};
 
 use super::access::{
     Fetched, plan_amo, plan_call, plan_fence, plan_load, plan_lr, plan_sc, plan_store, retires,
@@ -14,10 +14,10 @@ use super::access::{
 use crate::node::Node;
 use elf_loader::Image;
 use hart::can_fetch;
+use hart::rv32_exec::{Action, plan, stop};
 use machine_model::{Act, Deed, Plan};
 use machine_types::{Config, Outcome};
 use rv32_decode::decode;
-use rv32_exec::{Action, plan, stop};
 
 /// What an instruction of a running hart comes to, where memory has `size` bytes: its stop, or its access.
 fn plan_instr(config: &Config, size: u32, node: &Node, fetched: &Fetched) -> Plan

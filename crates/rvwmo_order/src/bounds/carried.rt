@@ -2,13 +2,15 @@
 //! of the operations that what it holds came from.
 ghost use Rattle.std.specs.Prelude.{◌≡◌};
 ghost use Rattle.std.specs.Option.{option_to_list};
-ghost use Rattle.rv32_exec.specs.Uses.{uses_of};
+ghost use Rattle.hart.specs.Uses.{uses_of};
 ghost use Rattle.memory_model.specs.Dependencies as dependencies;
 ghost use Rattle.rvwmo_order.specs.Carried as spec;
 ghost use Rattle.rvwmo_order.specs.Carried.{greatest};
 
+use hart::rv32_exec::{
+    address_register, destination, is_steering, other_registers, stored_register,
+};
 use rv32_decode::{Instr, Register};
-use rv32_exec::{address_register, destination, is_steering, other_registers, stored_register};
 
 #[derive(Clone, Copy)]
 pub(crate) struct Carried {

@@ -1,16 +1,16 @@
 //! `rvtl explain`: a script of events is applied to a machine, and told event by event.
 
 ghost use Rattle.std.specs.Prelude.{◌≡◌, IfErr, OnOk};
-ghost use Rattle.coherent_machine.specs.Machine.{IsReached};
+ghost use Rattle.event_stream.specs.Machine.{IsReached};
 ghost use Rattle.command_files.specs.Contents.{HoldsBytes};
 ghost use Rattle.script_commands.specs.Explaining.{IsExplainFault, IsExplained, IsPartOfStream, IsStreamCutOff, IsWholeExplanation, LeavesOfStream, state_if};
 ghost use Rattle.text_fields.specs.Writing.{Writes};
 
 use crate::explain::named::{NamedImage, named_image_in};
 use crate::idle::{IdleNote, remark_idle};
-use coherent_machine::Machine;
 use command_files::{Fault, Files, config_of, remark_refused, script_from};
 use command_settings::Replay;
+use event_stream::coherent_machine::Machine;
 use event_stream::{StreamError, Strictness, write_state, write_stream};
 use machine_types::{Config, Event};
 use std::alloc::Global;

@@ -9,7 +9,7 @@ use Rattle.architecture_outcomes.specs.Outcomes.{IsMachine, IsWitnessed, end_of,
 use Rattle.architecture_outcomes.specs.Visited.{AreMachineStates}
 use Rattle.explorer.specs.Outcomes.{HasEachEnd}
 use Rattle.explorer.specs.Ranks.{outcome_cmp}
-use Rattle.flat_exploration.specs.Outcomes.{Outcome as End}
+use Rattle.performed_words.specs.Outcomes.{Outcome as End}
 use Rattle.architecture_outcomes.proofs.machine.search_machine.Goals as goal
 
 pub returns-clause-shown : goal.returns-clause-shown

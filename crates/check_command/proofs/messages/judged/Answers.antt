@@ -3,7 +3,7 @@ use Rattle.std.specs.Option.{option_copied}
 use Rattle.std.specs.Prelude.{IfOk}
 use Rattle.check_command.proofs.Logs.{verdict_on}
 use Rattle.check_command.specs.Messages.{memory_told}
-use Rattle.message_judge.specs.Laws.{IsVerdict}
+use Rattle.log_text.specs.Laws.{IsVerdict}
 use Rattle.check_command.proofs.messages.judged.Goals as goal
 
 pub returns-then-ended : goal.returns-then-ended

@@ -2,7 +2,7 @@ use Rattle.std.proofs.Common.{[], sym, subst, ◌∙◌, ◌++◌, ◌∷◌, ap
 use Rattle.std.specs.Prelude.{codes}
 use Rattle.hart.specs.declared.status.Status.TheVariants.{Running}
 use Rattle.machine_types.specs.declared.outcome.Outcome.{Outcome}
-use Rattle.machine_parts.specs.declared.errors.ApplyError.{ApplyError}
+use Rattle.coherent_machine.specs.ApplyError.{ApplyError}
 use Rattle.text_fields.specs.Pages.{Paged}
 use Rattle.text_fields.specs.Writing.{Begins}
 use Rattle.text_fields.proofs.Pages.{page_fails, page_more, page_stops}

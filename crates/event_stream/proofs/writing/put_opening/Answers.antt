@@ -4,7 +4,7 @@ use Rattle.elf_loader.specs.Size.{base}
 use Rattle.text_fields.specs.Pages.{Spells}
 use Rattle.tl_types.specs.Line.{length_of}
 use Rattle.tl_types.specs.declared.line.LineSize.{LineSize}
-use Rattle.trace_recorder.specs.History.{History}
+use Rattle.trace_text.specs.History.{History}
 use Rattle.trace_text.specs.Traces.{image, image_lines}
 use Rattle.event_stream.specs.Streams.{head}
 use Rattle.event_stream.proofs.Paging.{spells_behind}

@@ -1,6 +1,6 @@
 use Rattle.std.proofs.Common.{◌≡◌, ◌++◌, ◌+◌, length}
 use Rattle.exploration_text.specs.Text.{harts_text}
-use Rattle.flat_model.specs.Shown.{told}
+use Rattle.explorer.specs.Shown.{told}
 use Rattle.exploration_text.proofs.spelling.spell_harts.Given as goal
 
 abbrev pub invariant-loop-rest : goal.invariant-loop-rest

@@ -1,7 +1,7 @@
 use Rattle.std.proofs.Common.{[]}
 use Rattle.std.proofs.lemmas.List.Elements.{All-nil}
 use Rattle.explore_command.proofs.Explored as explored
-use Rattle.performed_words.specs.Words.{CanShow}
+use Rattle.explorer.specs.Words.{CanShow}
 use Rattle.explore_command.proofs.exploring.found_in.Goals as goal
 
 pub explore-found-requires-clause-words : goal.explore-found-requires-clause-words

@@ -1,5 +1,5 @@
 use Rattle.std.proofs.lemmas.List.Elements.{All-nil}
-use Rattle.performed_words.specs.Words.{CanShow}
+use Rattle.fence_audit.specs.Words.{CanShow}
 use Rattle.fences_command.proofs.fencing.audit_of.Goals as goal
 
 pub audit_program-found-requires : goal.audit_program-found-requires

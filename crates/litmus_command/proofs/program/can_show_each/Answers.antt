@@ -1,7 +1,7 @@
 use Rattle.std.proofs.Common.{All, rules, subst}
 use Rattle.std.proofs.lemmas.List.{take_all}
 use Rattle.std.proofs.lemmas.List.Elements.{All-more}
-use Rattle.performed_words.specs.Words.{CanShow}
+use Rattle.architecture_outcomes.specs.Words.{CanShow}
 use Rattle.litmus_command.proofs.program.can_show_each.Goals as goal
 
 pub loop-address-preserved : goal.loop-address-preserved

@@ -1,5 +1,5 @@
 use Rattle.std.proofs.Common.{All, take}
-use Rattle.performed_words.specs.Words.{CanShow}
+use Rattle.architecture_outcomes.specs.Words.{CanShow}
 use Rattle.litmus_command.proofs.program.can_show_each.Given as goal
 
 abbrev pub invariant-loop-address : goal.invariant-loop-address

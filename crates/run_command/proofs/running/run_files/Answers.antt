@@ -1,5 +1,5 @@
 use Rattle.std.proofs.Common.{◌≡◌, ◌∙◌, ◌⊎◌, ◌≤◌, ℕ, List, Option, ap, arith, inl, inr, length, map, subst, sym}
-use Rattle.coherent_machine.specs.Moves.{AreMoves}
+use Rattle.host_threads.specs.Moves.{AreMoves}
 use Rattle.command_files.specs.Sizes.{IsInside, config_of, config_named, script_for}
 use Rattle.command_files.specs.Files.{HoldsImage}
 use Rattle.command_files.specs.Contents.{Contents, HoldsBytes}

@@ -1,6 +1,6 @@
 use Rattle.std.proofs.Common.{◌≡◌, ◌∙◌, List, ap, sym, true}
 use Rattle.std.specs.Prelude.{is_some}
-use Rattle.trace_recorder.specs.declared.operation.OpId.{OpId}
+use Rattle.memory_model.specs.OpId.{OpId}
 use Rattle.memory_model.specs.Items.{Item}
 use Rattle.memory_model.specs.Traces.{has_each_operation_once, is_among, operation_at}
 use Rattle.memory_model.proofs.Told.{names_find_operations}

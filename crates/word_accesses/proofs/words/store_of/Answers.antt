@@ -1,4 +1,4 @@
-use Rattle.rv32_exec.specs.Width.{byte_count}
+use Rattle.machine_model.specs.Width.{byte_count}
 use Rattle.word_accesses.proofs.Numbers.{stored-again}
 use Rattle.word_accesses.proofs.words.store_of.Goals as goal
 

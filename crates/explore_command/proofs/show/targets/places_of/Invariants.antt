@@ -1,7 +1,7 @@
 use Rattle.std.proofs.Common.{◌≡◌, ◌++◌, Some, length, map}
 use Rattle.explore_command.proofs.Shown.{HasShown}
 use Rattle.explore_command.specs.Targets.{name_of, place_of}
-use Rattle.performed_words.specs.Words.{CanShowEach}
+use Rattle.explorer.specs.Words.{CanShowEach}
 use Rattle.explore_command.proofs.show.targets.places_of.Given as goal
 
 abbrev pub invariant-loop-rest : goal.invariant-loop-rest

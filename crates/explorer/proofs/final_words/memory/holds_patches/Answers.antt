@@ -5,9 +5,9 @@ use Rattle.elf_loader.specs.Image.{Initial, byte_at, end_of}
 use Rattle.elf_loader.specs.Size.{base}
 use Rattle.flat_machine.specs.Memory.{patched}
 use Rattle.flat_model.specs.Flat.{byte_in}
-use Rattle.memory_model.specs.declared.operation.Operation.{Operation}
-use Rattle.memory_model.specs.Order.{last_write}
-use Rattle.memory_model.specs.Traces.{instructions, last_performed, operations_at}
+use Rattle.flat_model.specs.Operation.{Operation}
+use Rattle.flat_model.specs.Order.{last_write}
+use Rattle.flat_model.specs.Traces.{instructions, last_performed, operations_at}
 use Rattle.explorer.proofs.Performed.{same_bytes}
 use Rattle.explorer.proofs.final_words.memory.holds_patches.Goals as goal
 

@@ -2,7 +2,7 @@ use Rattle.std.proofs.Common.{◌≡◌, ◌<◌, ◌≤◌, ℕ, length}
 use Rattle.elf_loader.specs.Image.{byte_at, end_of}
 use Rattle.elf_loader.specs.Size.{base}
 use Rattle.flat_model.specs.Flat.{byte_in}
-use Rattle.memory_model.specs.Order.{last_write}
+use Rattle.flat_model.specs.Order.{last_write}
 use Rattle.explorer.proofs.final_words.memory.performed.Given as goal
 
 abbrev pub invariant-loop-rest : goal.invariant-loop-rest

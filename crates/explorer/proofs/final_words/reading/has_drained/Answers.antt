@@ -2,7 +2,7 @@ use Rattle.std.proofs.Common.{◌≡◌, ◌+◌, ◌<◌, suc, sym, ap, subst, 
 use Rattle.std.proofs.lemmas.Bool.{false≢true}
 use Rattle.hart.specs.declared.state.Hart.{Hart}
 use Rattle.hart.specs.Run.{is_running}
-use Rattle.machine_model.specs.Views.{no_node}
+use Rattle.flat_model.specs.Views.{no_node}
 use Rattle.store_buffer.specs.Groups.{is_empty}
 use Rattle.explorer.proofs.Drained.{IsIdleBelow, idle_more, one_runs, one_waits}
 use Rattle.explorer.proofs.final_words.reading.has_drained.Goals as goal

@@ -3,7 +3,7 @@ use Rattle.std.proofs.lemmas.List.{take_all}
 use Rattle.flat_exploration.specs.Laws.{none_runs}
 use Rattle.hart.specs.declared.state.Hart.{Hart}
 use Rattle.hart.specs.Run.{is_running}
-use Rattle.machine_model.specs.Views.{no_node}
+use Rattle.flat_model.specs.Views.{no_node}
 use Rattle.explorer.proofs.Drained.{ended_more, still_runs}
 use Rattle.explorer.proofs.final_words.reading.none_runs.Goals as goal
 

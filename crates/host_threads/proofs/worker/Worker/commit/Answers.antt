@@ -1,6 +1,6 @@
 use Rattle.std.proofs.Common.{◌≡◌, subst}
 use Rattle.std.specs.Prelude.{IfOk, OnOk}
-use Rattle.coherent_machine.specs.Adopting.{local_of}
+use Rattle.locked_fabric.specs.Adopting.{local_of}
 use Rattle.hart.specs.Local.{PrivateRow, private_row_from}
 use Rattle.machine_types.specs.declared.limits.TheConstants.{MAX_ROW}
 use Rattle.host_threads.proofs.worker.Worker.commit.Goals as goal

@@ -1,5 +1,5 @@
 use Rattle.std.proofs.Common.{ℕ, ◌<◌, ap, length, subst, sym, ◌∙◌, Option}
-use Rattle.backing_memory.specs.Memory.{line_data}
+use Rattle.machine_model.specs.Memory.{line_data}
 use Rattle.directory.specs.Directory.{Notes, probe_acked}
 use Rattle.directory.specs.declared.answer.Grant.{Grant}
 use Rattle.machine_model.specs.Deliveries.{on_probe_ack}

@@ -1,5 +1,5 @@
 use Rattle.std.proofs.Common.{ℕ, ◌<◌, ◌∙◌, ap, length, subst, sym}
-use Rattle.backing_memory.specs.Memory.{line_data}
+use Rattle.machine_model.specs.Memory.{line_data}
 use Rattle.directory.specs.Directory.{released}
 use Rattle.machine_model.specs.Deliveries.{on_release}
 use Rattle.machine_model.specs.Laws.{QueuesFit}

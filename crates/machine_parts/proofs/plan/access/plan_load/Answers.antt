@@ -4,7 +4,7 @@ use Rattle.machine_model.specs.Views.{Node}
 use Rattle.machine_model.specs.Words.{read_from}
 use Rattle.machine_model.specs.declared.act.Deed.TheVariants as deed
 use Rattle.machine_parts.specs.Accesses.{fetched_of}
-use Rattle.rv32_exec.specs.Width.{byte_count}
+use Rattle.hart.specs.Width.{byte_count}
 use Rattle.store_buffer.specs.ByteMask.{laid_over}
 use Rattle.tl_types.specs.Line.{line_of}
 use Rattle.tl_types.specs.declared.line.LineSize.{LineSize}

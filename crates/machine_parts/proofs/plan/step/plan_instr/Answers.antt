@@ -1,9 +1,9 @@
 use Rattle.std.proofs.Common.{◌∙◌, ap, slice_index}
 use Rattle.machine_model.specs.Views.{Node}
 use Rattle.machine_parts.specs.Accesses.{fetched_of}
-use Rattle.rv32_exec.specs.Meaning.{Fences, Loads, Private, DoesLr, Stores, DoesSc, DoesAmo, Calls, access_of, stop_of}
-use Rattle.rv32_exec.specs.Width.{byte_count}
-use Rattle.rv32_exec.specs.declared.actions.Action.TheVariants as action
+use Rattle.hart.specs.Meaning.{Fences, Loads, Private, DoesLr, Stores, DoesSc, DoesAmo, Calls, access_of, stop_of}
+use Rattle.hart.specs.Width.{byte_count}
+use Rattle.hart.specs.ActionVariants as action
 use Rattle.machine_parts.proofs.FoundPlans.{fit_found, found, goes_on, seen, stops}
 use Rattle.machine_parts.proofs.plan.step.plan_instr.Goals as goal
 

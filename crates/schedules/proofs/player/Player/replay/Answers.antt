@@ -1,6 +1,6 @@
 use Rattle.std.proofs.Common.{◌∙◌, Ok, Err, None, ap}
 use Rattle.coherent_machine.proofs.Refusals.{next_of, refused_next, rest_place}
-use Rattle.machine_parts.specs.declared.errors.ApplyError.TheVariants.{BadEvent, Limit}
+use Rattle.coherent_machine.specs.TheVariants.{BadEvent, Limit}
 use Rattle.schedules.specs.declared.errors.Fault.TheVariants as fault
 use Rattle.schedules.proofs.Played.{answered}
 use Rattle.schedules.proofs.Replaying.{goes_on}

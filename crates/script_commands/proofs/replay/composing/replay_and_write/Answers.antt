@@ -1,5 +1,5 @@
 use Rattle.std.proofs.Common.{subst}
-use Rattle.machine_model.specs.Laws.{IsHeadline}
+use Rattle.event_stream.specs.MachineModelLaws.{IsHeadline}
 use Rattle.machine_types.specs.declared.config.Config.{Config}
 use Rattle.command_files.proofs.Replays.{leads_there, readable}
 use Rattle.script_commands.proofs.replay.composing.replay_and_write.Goals as goal

@@ -1,16 +1,16 @@
 use Rattle.std.proofs.Common.{◌≡◌, ◌∙◌, ◌⊎◌, ◌+◌, ◌^◌, ◌-◌, ℕ, ap, inl, inr, map, refl, subst, sym}
 use Rattle.std.specs.Prelude.{min}
-use Rattle.coherent_machine.specs.Machine.{IsFirstRefusal}
-use Rattle.coherent_machine.specs.declared.errors.ReplayError.{ReplayError}
-use Rattle.coherent_machine.specs.declared.errors.ReplayError.TheVariants as refusals
+use Rattle.event_stream.specs.Machine.{IsFirstRefusal}
+use Rattle.event_stream.specs.ReplayError.{ReplayError}
+use Rattle.event_stream.specs.TheVariants as refusals
 use Rattle.command_files.specs.Sizes.{config_of}
 use Rattle.command_files.specs.Faults.{IsReplayFault}
 use Rattle.command_files.specs.declared.fault.Fault.{Fault}
 use Rattle.command_files.specs.declared.fault.Fault.TheVariants.{CannotWrite, Event, OutOfMemory}
 use Rattle.command_settings.specs.declared.wanted.Replay.{Replay}
 use Rattle.elf_loader.specs.Image.{Initial}
-use Rattle.machine_model.specs.Views.{opening}
-use Rattle.machine_parts.specs.declared.errors.ApplyError.{ApplyError}
+use Rattle.event_stream.specs.Views.{opening}
+use Rattle.event_stream.specs.ApplyError.{ApplyError}
 use Rattle.trace_text.specs.declared.script.Script.{Script}
 use Rattle.command_files.specs.Files.{HoldsImage, HoldsScript}
 use Rattle.command_files.specs.Contents.{Contents}

@@ -1,5 +1,0 @@
-use Rattle.exploration_text.proofs.Joined.{joined}
-use Rattle.fence_text.proofs.spelling.spell_instr.Goals as goal
-
-pub returns : goal.returns
-returns c = joined _ _ _ _ _ _ _ c.in_ok-spell_address.ensures c.in_ok-spell_text.ensures c.in_ok-spell_named.ensures
