@@ -11,9 +11,9 @@ mod outcome;
 mod spelling;
 
 pub use architecture::Architecture;
-pub use explorer as explorer;
+pub use explorer;
 pub use joining::explore_architecture;
 pub use outcome::{Outcome, Way};
-pub use performed_words as performed_words;
+pub use performed_words;
 pub use spelling::text_of;
-pub use window_search as window_search;
+pub use window_search;

@@ -14,13 +14,13 @@ mod system;
 
 pub use ends::print_ends;
 pub use escaped::Escaped;
-pub use event_stream as event_stream;
+pub use event_stream;
 pub use fault::{Fault, Unshown};
 pub use files::Files;
 pub use input::{Source, WithInput};
-pub use machine_traces as machine_traces;
+pub use machine_traces;
 pub use machines::{config_of, named_config, script_of};
-pub use notes as notes;
+pub use notes;
 pub use reading::{
     check_writable, contents, image_in, image_of, script_from, script_in, text_in, unmade,
 };

@@ -18,7 +18,7 @@ mod strictness;
 mod waits;
 mod writing;
 
-pub use coherent_machine as coherent_machine;
+pub use coherent_machine;
 pub use errors::StreamError;
 pub use laws::stream_is_the_trace;
 pub use report::{Lengths, Report, action_of, hart_of};

@@ -6,8 +6,8 @@ mod sampling;
 mod spelling;
 mod wording;
 
-pub use explorer as explorer;
-pub use order_text as order_text;
+pub use explorer;
+pub use order_text;
 pub use sampling::sampled_text;
 pub use spelling::harts_text;
 pub use wording::{WordName, end_text, text_of};

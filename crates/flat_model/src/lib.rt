@@ -10,6 +10,6 @@ pub use event::FlatEvent;
 pub use laws::{
     flat_order_always, flat_results_always, projection_decides, shown_always, worked_plays,
 };
-pub use machine_model as machine_model;
-pub use machine_model::memory_model as memory_model;
+pub use machine_model;
+pub use machine_model::memory_model;
 pub use results::HartResult;

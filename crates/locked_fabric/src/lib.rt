@@ -11,7 +11,7 @@ mod taken;
 mod taking;
 mod turn;
 
-pub use coherent_machine as coherent_machine;
+pub use coherent_machine;
 pub use fabric::Fabric;
 pub use numbers::Numbers;
 pub use port::{Port, seen_in};

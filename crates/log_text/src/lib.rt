@@ -13,7 +13,7 @@ mod waiting;
 
 pub use contradiction::Contradiction;
 pub use ending::end_text;
-pub use message_judge as message_judge;
+pub use message_judge;
 pub use objection::Objection;
 pub use place::line_of_message;
 pub use unanswered::Unanswered;

@@ -12,7 +12,7 @@ mod ready_laws;
 mod room_laws;
 
 pub use act::{Act, Deed, Plan};
-pub use backing_memory as backing_memory;
+pub use backing_memory;
 pub use headline_laws::{atomicity_always, headline, legal_always};
 pub use joint_laws::{coherent_always, load_values_always};
 pub use laws::{
@@ -20,10 +20,10 @@ pub use laws::{
     stops_change_status_alone,
 };
 pub use log_laws::{log_lawful_always, sums_agree};
-pub use memory_model as memory_model;
+pub use memory_model;
 pub use order_laws::{order_always, preserved_always};
 pub use range_laws::in_range_always;
 pub use ready_laws::{ready_always, sound_always};
 pub use room_laws::room_always;
-pub use rv32_exec as rv32_exec;
-pub use trace_recorder as trace_recorder;
+pub use rv32_exec;
+pub use trace_recorder;

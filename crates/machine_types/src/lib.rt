@@ -15,4 +15,4 @@ pub use limits::{
 };
 pub use model::MemoryModel;
 pub use outcome::Outcome;
-pub use tl_types as tl_types;
+pub use tl_types;

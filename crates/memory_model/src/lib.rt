@@ -14,4 +14,4 @@ pub use laws::{
     ztso_is_stronger,
 };
 pub use operation::{Kind, Operation};
-pub use trace_recorder as trace_recorder;
+pub use trace_recorder;

@@ -33,7 +33,7 @@ pub use naming::NamingNote;
 pub use order::{OrderNote, OvertakingNote};
 pub use overtaking::{Overtaking, overtakings};
 pub use run::RunNote;
-pub use rvwmo_order as rvwmo_order;
+pub use rvwmo_order;
 pub use script::ScriptNote;
 pub use size::SizeNote;
 pub use trace::{BehindNote, TraceNote};

@@ -6,4 +6,4 @@ mod reading;
 
 pub use addresses::can_show;
 pub use reading::{byte_of, words_of};
-pub use trace_operations as trace_operations;
+pub use trace_operations;

@@ -14,7 +14,7 @@ mod uses;
 
 pub use actions::{Action, Width};
 pub use call::Call;
-pub use elf_loader as elf_loader;
+pub use elf_loader;
 pub use finishing::finish;
 pub use laws::{reads_are_as_named, stops_are_decided_first, writes_are_as_named};
 pub use planning::plan;

@@ -23,8 +23,8 @@ mod verdict;
 
 pub use checking::{check, check_model};
 pub use error::CheckError;
-pub use memory_model as memory_model;
+pub use memory_model;
 pub use rule::Rule;
-pub use trace_operations as trace_operations;
+pub use trace_operations;
 pub use trace_operations::{Index, completed};
 pub use verdict::{Code, Verdict};

@@ -15,7 +15,7 @@ mod spare;
 mod transactions;
 
 pub use circling::{Circle, Reading, circles};
-pub use coherent_machine as coherent_machine;
+pub use coherent_machine;
 pub use errors::RealiseError;
 pub use goal::{Goal, HartResults};
 pub use realising::realise;

@@ -9,4 +9,4 @@ mod replay;
 pub use chart::{address_in, chart_files};
 pub use explain::{NamedImage, explain_script, named_image_in};
 pub use replay::{CompositionError, replay_and_write, replay_files};
-pub use stop_text as stop_text;
+pub use stop_text;

@@ -9,4 +9,4 @@ mod standing;
 
 pub use circles::CircleNote;
 pub use note::StopNote;
-pub use schedules as schedules;
+pub use schedules;

@@ -6,5 +6,5 @@ mod explaining;
 mod image;
 mod kinds;
 
-pub use check_command as check_command;
+pub use check_command;
 pub use kinds::explain_files;

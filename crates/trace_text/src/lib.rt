@@ -27,7 +27,7 @@ pub use script_reading::read_script;
 pub use script_writing::{spell_event, write_script};
 pub use spellings::spell_message;
 pub use trace_reading::{no_text_begins_another, read_trace};
-pub use trace_recorder as trace_recorder;
+pub use trace_recorder;
 pub use trace_writing::{
     put_image, put_log, put_performed, put_statuses, spell_retired, spell_status, write_trace,
 };

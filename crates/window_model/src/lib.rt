@@ -17,4 +17,4 @@ pub use laws::{
 pub use reduction_laws::{
     closed_sets_tell_all, covered_sets_are_closed, ends_are_alone, fetching_may_stop, less_does_all,
 };
-pub use trace_operations as trace_operations;
+pub use trace_operations;

@@ -6,6 +6,6 @@ mod output;
 mod results;
 mod witness;
 
-pub use flat_model as flat_model;
+pub use flat_model;
 pub use judging::judge;
 pub use witness::{Run, Witness};

@@ -4,6 +4,6 @@
 mod ordering;
 mod words;
 
-pub use machine_model as machine_model;
+pub use machine_model;
 pub use ordering::{orders_after_stores, waits_for_stores, write_waits};
 pub use words::{marks_of, read_from, store_of, word_of};
