@@ -2,10 +2,9 @@
 use Rattle.std.proofs.Common.{ℕ, ◌≡◌, ◌∙◌, Bool, IfSome, List, None, Option, Some, ap, subst, sym}
 use Rattle.std.specs.Prelude.{IfOk, Result}
 use Rattle.std.specs.declared.alloc.AllocError.{AllocError}
-use Rattle.check_command.specs.Messages.{HoldsLog, memory_told}
+use Rattle.check_command.specs.Messages.{HoldsLog, memory_told, text_meant}
 use Rattle.command_files.specs.Contents.{Contents, HoldsBytes}
 use Rattle.elf_loader.specs.Image.{Initial}
-use Rattle.log_text.specs.Ending as ending
 use Rattle.log_text.specs.Laws.{IsVerdict}
 use Rattle.log_text.specs.MessageVerdict.{MessageVerdict}
 use Rattle.trace_recorder.specs.History.{History}
@@ -13,16 +12,16 @@ use Rattle.trace_recorder.specs.declared.logged.Logged.{Logged}
 use Rattle.trace_text.specs.TraceLimits.{IsTrace}
 use Rattle.trace_text.specs.Traces.{text}
 
--- the text, of a file of these bytes, once it is ended
-ended_alike : (known : Option (List ℕ)) (bytes whole : List ℕ) → IfSome known (λ of_file. of_file ≡ bytes) → ending.ended bytes ≡ whole → IfSome known (λ of_file. ending.ended of_file ≡ whole)
-ended_alike None bytes whole same is = tt
-ended_alike (Some of_file) bytes whole same is = ap ending.ended same ∙ is
+-- the text that a file of these bytes stands for
+meant_alike : (known : Option (List ℕ)) (bytes whole : List ℕ) → IfSome known (λ of_file. of_file ≡ bytes) → text_meant bytes ≡ whole → IfSome known (λ of_file. text_meant of_file ≡ whole)
+meant_alike None bytes whole same is = tt
+meant_alike (Some of_file) bytes whole same is = ap text_meant same ∙ is
 
 -- all of it is the text of the trace that was read
-pub log_held : (held : Contents) (name bytes read : List ℕ) (t : History) → HoldsBytes held name bytes → read ≡ ending.ended bytes → IsTrace t × (read ≡ text t) → HoldsLog held name t
+pub log_held : (held : Contents) (name bytes read : List ℕ) (t : History) → HoldsBytes held name bytes → read ≡ text_meant bytes → IsTrace t × (read ≡ text t) → HoldsLog held name t
 log_held held name bytes read t same is found = record {
   is_trace = found.0;
-  bytes = ended_alike (held name) bytes (text t) same (sym is ∙ found.1);
+  bytes = meant_alike (held name) bytes (text t) same (sym is ∙ found.1);
 }
 
 -- what is said of the memory and the log that are handed on is said of the trace

@@ -2,12 +2,11 @@
 use Rattle.std.proofs.Common.{◌≡◌, ◌∙◌, ◌<◌, ◌≤◌, ◌-◌, ◌⊎◌, ◌↔◌, ◌++◌, ℕ, IfSome, List, None, Option, Some, ap, arith, drop, inl, inr, length, refl, subst, sym, take}
 use Rattle.std.proofs.lemmas.List.{length-drop, take-append-drop, take_all}
 use Rattle.check_command.specs.Checking.{GoOnBehindATrace, IsCheckFault, IsNoTraceText, IsTraceFault}
-use Rattle.check_command.specs.Messages.{IsLogFault}
+use Rattle.check_command.specs.Messages.{IsLogFault, text_meant}
 use Rattle.command_files.specs.Faults.{Name}
 use Rattle.command_files.specs.Contents.{Contents, HoldsBytes}
 use Rattle.command_files.specs.declared.fault.Fault.{Fault}
 use Rattle.command_files.specs.declared.fault.Fault.TheVariants.{BytesAfterTrace, CannotWrite, OutOfMemory, Text}
-use Rattle.log_text.specs.Ending.{ended}
 use Rattle.trace_recorder.specs.History.{History}
 use Rattle.trace_text.specs.TraceLimits.{IsTrace}
 use Rattle.trace_text.specs.Traces.{text}
@@ -48,11 +47,11 @@ module _ (held : Contents) (name : Name) (bytes : List ℕ) (holds : HoldsBytes 
   check_told read fault same (inr (inr at)) = subst (IsCheckFault held name) (sym at) tt
 
   -- and of a check of messages
-  pub log_told : (read : List ℕ) (fault : Fault) → read ≡ ended bytes → IsTraceFault read name fault → IsLogFault held name fault
+  pub log_told : (read : List ℕ) (fault : Fault) → read ≡ text_meant bytes → IsTraceFault read name fault → IsLogFault held name fault
   log_told read fault same (inl (error, at, none)) =
-      subst (IsLogFault held name) (sym at) (refl, inr (of_file (held name.now) bytes (λ known. IsNoTraceText (ended known) error) holds (subst (λ known. IsNoTraceText known error) same none)))
+      subst (IsLogFault held name) (sym at) (refl, inr (of_file (held name.now) bytes (λ known. IsNoTraceText (text_meant known) error) holds (subst (λ known. IsNoTraceText known error) same none)))
   log_told read fault same (inr (inl (at, more))) =
-      subst (IsLogFault held name) (sym at) (refl, of_file (held name.now) bytes (λ known. GoOnBehindATrace (ended known)) holds (subst GoOnBehindATrace same more))
+      subst (IsLogFault held name) (sym at) (refl, of_file (held name.now) bytes (λ known. GoOnBehindATrace (text_meant known)) holds (subst GoOnBehindATrace same more))
   log_told read fault same (inr (inr at)) = subst (IsLogFault held name) (sym at) tt
 
 pub trace_is_not_write : (bytes : List ℕ) (name : Name) (fault : Fault) → IsTraceFault bytes name fault → fault ≡ CannotWrite → ⊥

@@ -9,6 +9,7 @@ use Rattle.command_files.specs.declared.fault.Fault.TheVariants.{BytesAfterTrace
 use Rattle.command_files.specs.declared.fault.Fault.{Fault}
 use Rattle.elf_loader.specs.Image.{Initial}
 use Rattle.log_text.specs.Ending as ending
+use Rattle.log_text.specs.Names.{without_names}
 use Rattle.log_text.specs.Verdicts.{verdict_text}
 use Rattle.log_text.specs.Laws.{IsVerdict}
 use Rattle.log_text.specs.MessageVerdict.{MessageVerdict}
@@ -18,10 +19,14 @@ use Rattle.trace_text.specs.TraceLimits.{IsTrace}
 use Rattle.trace_text.specs.Traces.{text}
 use Rattle.trace_text.specs.declared.fault.TextError.{TextError}
 
--- the file has the text of this trace, and nothing else; the lines that say how its harts ended may be left out, where all still run
+-- the trace's text that a file stands for: each message without its name, and the lines that say how its harts ended, which may be left out, where all still run
+abbrev pub text_meant : List ℕ → List ℕ
+text_meant bytes = ending.ended (without_names bytes)
+
+-- the file has the text of this trace, and nothing else, but for what is said of its messages by names
 pub record HoldsLog (held : Contents) (name : List ℕ) (trace : History) : Type 0 where
   pub is_trace : IsTrace trace
-  pub bytes : IfSome (held name) (λ known. ending.ended known ≡ text trace)
+  pub bytes : IfSome (held name) (λ known. text_meant known ≡ text trace)
 
 -- memory at the start, if the trace tells of it: it has an I line for each line that isn't all zero
 abbrev pub memory_told : Initial → Option Initial
@@ -42,15 +47,15 @@ pub record IsLogCutOff (held : Contents) (name : List ℕ) (ended : Bool) (old n
   pub judged : IsVerdict ended (memory_told trace.image) trace.log verdict
   pub begun : Begins old new (verdict_text verdict)
 
--- the file, with the lines that may be left out, begins with no trace's text, or already its first line is longer than that of any text
+-- the file, without names and with the lines that may be left out, begins with no trace's text, or already its first line is longer than that of any text
 abbrev pub IsNoLog : Contents → List ℕ → TextError → Type 0
-IsNoLog held name error = IsLongFirst held name error ⊎ IfSome (held name) (λ known. IsNoTraceText (ending.ended known) error)
+IsNoLog held name error = IsLongFirst held name error ⊎ IfSome (held name) (λ known. IsNoTraceText (text_meant known) error)
 
 -- the file can't be read, what it holds is no trace, or it goes on behind the trace: a log is lawful or not, and isn't refused
 abbrev pub IsLogFault : Contents → Name → Fault → Type 0
 IsLogFault held name (CannotRead file) = file ≡ name
 IsLogFault held name (Text file error) = (file ≡ name) × IsNoLog held name.now error
-IsLogFault held name (BytesAfterTrace file) = (file ≡ name) × IfSome (held name.now) (λ known. GoOnBehindATrace (ending.ended known))
+IsLogFault held name (BytesAfterTrace file) = (file ≡ name) × IfSome (held name.now) (λ known. GoOnBehindATrace (text_meant known))
 IsLogFault held name CannotWrite = Unit {0}
 IsLogFault held name OutOfMemory = Unit {0}
 IsLogFault held name _ = ⊥

@@ -5,25 +5,31 @@ ghost use Rattle.std.specs.Option.{option_copied};
 ghost use Rattle.std.specs.List.{list_any};
 ghost use Rattle.text_fields.specs.Writing.{Writes};
 ghost use Rattle.log_text.specs.Verdicts.{verdict_text};
-ghost use Rattle.check_command.specs.Messages.{IsLogCutOff, IsLogFault, IsLogJudged, memory_told};
+ghost use Rattle.check_command.specs.Checking.{IsTraceFault};
+ghost use Rattle.check_command.specs.Messages.{IsLogCutOff, IsLogFault, IsLogJudged, memory_told, text_meant};
 ghost use Rattle.log_text.specs.Laws.{IsVerdict};
 ghost use Rattle.command_files.specs.Faults.{LeavesAtFault};
+ghost use Rattle.trace_text.specs.TraceLimits.{IsTrace};
+ghost use Rattle.trace_text.specs.Traces as traces;
 
 use crate::reading::whole_trace;
 use command_files::{Escaped, Fault, Files, remark, text_in};
 use elf_loader::Image;
 use log_text::message_judge::{MessageBreach, MessageVerdict, judge_ended, judge_messages};
-use log_text::{Contradiction, Objection, Unanswered, end_text, line_of_message, put_verdict};
+use log_text::{
+    Contradiction, Objection, Place, Unanswered, end_text, misnamed_line, put_verdict,
+    without_names,
+};
 use open_questions::left_open;
 use std::alloc::{AllocError, Global};
 use std::io::{self, Write};
 use trace_recorder::{Logged, Trace};
 
-/// Reads a trace, or one that ends behind its messages, judges its log by the rules of the lawful log and of the
-/// coherent log, and prints the verdict on `out`. Memory begins as the trace's I lines say; where there is none with
-/// bytes that aren't known. Where the log has ended, each question has to have its answer too; where it may go on, a
-/// remark tells of those that have none. Where the log isn't lawful, the line of the message that breaks a rule, and what stood
-/// against it, go to `err`.
+/// Reads a trace, or one that ends behind its messages, whose messages may have names, judges its log by the rules of
+/// the lawful log and of the coherent log, and prints the verdict on `out`. Memory begins as the trace's I lines say;
+/// where there is none with bytes that aren't known. Where the log has ended, each question has to have its answer too;
+/// where it may go on, a remark tells of those that have none. Where the log isn't lawful, the line and the name of the
+/// message that breaks a rule, and what stood against it, go to `err`.
 pub fn check_messages<'a, F: Files, O: Write, E: Write>(
     alloc: Global,
     files: &mut F,
@@ -39,11 +45,12 @@ pub fn check_messages<'a, F: Files, O: Write, E: Write>(
     ensures spared { F.held files.new ≡ F.held files.old }
     ensures quiet { IfOk result (λ verdict. verdict ≡ MessageVerdict.Lawful → E.contents err.new ≡ E.contents err.old) }
 {
-    let mut bytes = text_in(alloc, files, file)?;
-    let Ok(()) = end_text(&mut bytes) else {
+    let bytes = text_in(alloc, files, file)?;
+    let Ok(text) = text_meant(alloc, bytes.as_slice()) else {
         return Err(Fault::OutOfMemory);
     };
-    let trace = whole_trace(alloc, files, file, bytes.as_slice())?;
+    let trace = whole_log(alloc, files, file, text.as_slice(), bytes.as_slice())?;
+    drop(text); // judging needs the room
     let Ok(verdict) = judged(alloc, &trace, ended) else {
         return Err(Fault::OutOfMemory);
     };
@@ -54,6 +61,51 @@ pub fn check_messages<'a, F: Files, O: Write, E: Write>(
     // Standard error has no other place to tell that it takes no more.
     let _ = object(file, bytes.as_slice(), &trace, verdict, err);
     Ok(verdict)
+}
+
+/// The trace that this text is, for which the bytes of the file stand. Where it is none, what is wrong is remarked.
+fn whole_log<'a, F: Files>(
+    alloc: Global,
+    files: &mut F,
+    file: &'a str,
+    text: &[u8],
+    bytes: &[u8],
+) -> Result<Trace, Fault<'a>>
+    ensures read { IfOk result (λ trace. IsTrace trace.history × (text.now ≡ traces.text trace.history)) }
+    ensures told { IfErr result (IsTraceFault text.now file.entry) }
+    ensures spared { F.held files.new ≡ F.held files.old }
+{
+    match whole_trace(alloc, files, file, text) {
+        Ok(trace) => Ok(trace),
+        Err(fault) => {
+            remark_misnamed(alloc, files, bytes);
+            Err(fault)
+        }
+    }
+}
+
+/// The trace's text that a file with such bytes stands for.
+fn text_meant(alloc: Global, bytes: &[u8]) -> Result<Vec<u8>, AllocError>
+    ensures { IfOk result (λ text. text.items ≡ text_meant bytes.now) }
+{
+    let mut text = without_names(alloc, bytes)?;
+    end_text(&mut text)?;
+    Ok(text)
+}
+
+/// Remarks where something stands behind a message that is no name.
+fn remark_misnamed<F: Files>(alloc: Global, files: &mut F, bytes: &[u8])
+    ensures { F.held files.new ≡ F.held files.old }
+{
+    if let Some(line) = misnamed_line(bytes) {
+        remark(
+            alloc,
+            files,
+            format_args!(
+                "line {line}: behind ` ; ` a message has a name of at most 72 bytes, none a control byte"
+            ),
+        );
+    }
 }
 
 /// The verdict on a trace's log, which has ended or may go on.
@@ -101,19 +153,21 @@ fn remark_open<F: Files>(alloc: Global, files: &mut F, bytes: &[u8], log: &[Logg
     let Some(question) = Unanswered::of(log, open.first) else {
         return;
     };
-    let line = line_of_message(bytes, open.first).unwrap_or(0);
+    let Some(place) = Place::of(bytes, open.first) else {
+        return;
+    };
     if open.count == 1 {
         remark(
             alloc,
             files,
-            format_args!("line {line}: {question} (with --ended this is a fault)"),
+            format_args!("{place}: {question} (with --ended this is a fault)"),
         );
     } else {
         remark(
             alloc,
             files,
             format_args!(
-                "line {line}: {question}, the first of {} questions without an answer (with --ended this is a fault)",
+                "{place}: {question}, the first of {} questions without an answer (with --ended this is a fault)",
                 open.count
             ),
         );
@@ -158,27 +212,43 @@ fn object<E: Write>(
 ) -> io::Result<()>
     ensures { verdict ≡ MessageVerdict.Lawful → E.contents err.new ≡ E.contents err.old }
 {
-    let MessageVerdict::Unlawful { breach, index } = verdict else {
+    match verdict {
+        MessageVerdict::Lawful => Ok(()),
+        MessageVerdict::Unlawful { breach, index } => {
+            put_breach(file, bytes, trace, breach, index, err)
+        }
+    }
+}
+
+/// Which line breaks a rule, and what stands against its message.
+fn put_breach<E: Write>(
+    file: &str,
+    bytes: &[u8],
+    trace: &Trace,
+    breach: MessageBreach,
+    index: usize,
+    err: &mut E,
+) -> io::Result<()> {
+    let name = Escaped(file);
+    let Some(place) = Place::of(bytes, index) else {
         return Ok(());
     };
-    let name = Escaped(file);
-    let line = line_of_message(bytes, index).unwrap_or(0);
     match breach {
         MessageBreach::Unlawful(rule) => {
             let harts = trace.harts() as u8;
             match Objection::to(trace.log(), rule, index, harts) {
-                Some(objection) => writeln!(err, "rvtl: {name}: line {line}: {objection}"),
+                Some(objection) => writeln!(err, "rvtl: {name}: {place}: {objection}"),
                 None => Ok(()),
             }
         }
         MessageBreach::Incoherent(breach) => {
             match Contradiction::of(bytes, trace.log(), breach, index) {
-                Some(contradiction) => writeln!(err, "rvtl: {name}: line {line}: {contradiction}"),
+                Some(contradiction) => writeln!(err, "rvtl: {name}: {place}: {contradiction}"),
                 None => Ok(()),
             }
         }
         MessageBreach::Unanswered => match Unanswered::of(trace.log(), index) {
-            Some(question) => writeln!(err, "rvtl: {name}: line {line}: {question}"),
+            Some(question) => writeln!(err, "rvtl: {name}: {place}: {question}"),
             None => Ok(()),
         },
     }
