@@ -80,19 +80,24 @@ fn run<
     );
     if status == OUT_OF_MEMORY {
         // What was remarked before isn't why the command ended.
-        if let Some(kib) = most_taken(rt) {
-            let _ = writeln!(
-                err,
-                "note: {kib} KiB of memory were taken, and no more was to be had"
-            );
+        tell_memory(rt, &mut err);
+    } else {
+        if let Some(error) = lost.get() {
+            let _ = writeln!(err, "note: {}", FileNote(error));
         }
-        return Ok(status);
-    }
-    if let Some(error) = lost.get() {
-        let _ = writeln!(err, "note: {}", FileNote(error));
-    }
-    if let Some(remark) = files.last() {
-        let _ = writeln!(err, "note: {remark}");
+        if let Some(remark) = files.last() {
+            let _ = writeln!(err, "note: {remark}");
+        }
     }
     Ok(status)
+}
+
+/// Tells how much memory there was, as far as the system tells.
+fn tell_memory<R: Files, E: Write>(rt: &R, err: &mut E) {
+    if let Some(kib) = most_taken(rt) {
+        let _ = writeln!(
+            err,
+            "note: {kib} KiB of memory were taken, and no more was to be had"
+        );
+    }
 }
