@@ -1,10 +1,9 @@
 -- When the program's words are told otherwise than they were given.
-use Rattle.std.specs.Prelude.{List}
-use Rattle.clap.specs.Words.{Text}
-use Rattle.clap.specs.declared.error.Error.{Error}
+use Rattle.std.specs.Prelude.{◌≢◌, ℕ, List}
 use Rattle.command_settings.specs.Refusals.{IsRefused}
-use Rattle.command_settings.specs.declared.wanted.SettingsError.TheVariants.{Usage}
+use Rattle.command_settings.specs.declared.wanted.SettingsError.{SettingsError}
+use Rattle.command_settings.specs.declared.wanted.SettingsError.TheVariants.{NoMemory}
 
 -- the usage refuses the words, or their settings don't go together
-abbrev pub AreRefused : List Text → Type 0
-AreRefused words = (error : Error) × IsRefused words (Usage error)
+abbrev pub AreRefused : List (List ℕ) → Type 0
+AreRefused words = (error : SettingsError) × (error ≢ NoMemory) × IsRefused words error
