@@ -1,6 +1,7 @@
 //! The words of the command line.
 
 ghost use Rattle.std.specs.Prelude.{◌≡◌, ◌⊎◌, IfOk, IsTrue, map};
+ghost use Rattle.std.specs.String.{string_bytes};
 ghost use Rattle.rvtl.specs.Words.{AreRefused};
 
 use command_files::Escaped;
@@ -11,7 +12,7 @@ use std::convert::AsStr;
 /// The words, but as messages have them where they fit no usage, so that what the usage says of them ends no line and steers
 /// no terminal.
 pub fn told(alloc: Global, words: Vec<String>) -> Result<Vec<String>, AllocError>
-    ensures { IfOk result (λ told. (told ≡ words.entry) ⊎ (AreRefused (map String.text words.entry.items) × AreRefused (map String.text told.items))) }
+    ensures { IfOk result (λ told. (told ≡ words) ⊎ (AreRefused (map string_bytes words.items) × AreRefused (map string_bytes told.items))) }
 {
     // Its words are read by a usage of its own.
     if words
