@@ -10,14 +10,14 @@ mod spoiling;
 mod texts;
 mod verdicts;
 
+pub use crate::kept_files::folder::{Backed, Folder};
+pub use crate::kept_files::said::{Said, run};
+pub use crate::kept_files::texts::{lines_with, words_of};
 use anyhow::Result;
-pub use folder::{Backed, Folder};
-pub use said::{Said, run};
 use std::io::Write;
 use std::rt::Files;
 use std::sync::Wait;
 use std::thread::Threads;
-pub use texts::{lines_with, words_of};
 
 /// Takes each file, and prints what came of it.
 pub fn take_all<R: Files + Threads + Wait + Sync + AllocGlobal, W: Write>(
