@@ -6,6 +6,7 @@ manners.py RVTL
 RVTL is the built program. A line tells of each case whether it ended as it should; the status is 1 where one didn't."""
 import os
 import pty
+import re
 import resource
 import shutil
 import signal
@@ -99,11 +100,71 @@ def over_standard_output(rvtl, folder):
     run = [rvtl, "run", "--raw", "--journal", journal, IMAGE]
     with open(journal, "wb") as file:
         end = subprocess.run(run, stdout=file, stderr=subprocess.PIPE, timeout=60)
-    told = [f"rvtl: {journal}: cannot write", "note: standard output goes into this file: name another one for --journal"]
+    remark = "note: standard output goes into this file: name another one for --journal"
+    told = [f"rvtl: {journal}: cannot write", remark]
     tell("a journal on standard output", end.returncode == 1 and end.stderr.decode().splitlines() == told, end)
+    for name in ("/dev/stdout", "/dev/fd/1", "/proc/self/fd/1"):
+        with open(journal, "wb") as file:
+            end = subprocess.run([rvtl, "run", "--raw", "--journal", name, IMAGE], stdout=file, stderr=subprocess.PIPE, timeout=60)
+        told = [f"rvtl: {name}: cannot write", remark]
+        tell(f"a journal on {name}", end.returncode == 1 and end.stderr.decode().splitlines() == told, end)
     with open("/dev/null", "wb") as null:
         end = subprocess.run([rvtl, "run", "--raw", "--journal", "/dev/null", IMAGE], stdout=null, stderr=subprocess.PIPE, timeout=60)
     tell("a journal and a trace that nobody wants", end.returncode == 0, end)
+
+
+def memory_ends(rvtl, folder):
+    """Where memory ends, only how much there was is told, and nothing of the file."""
+    trace = os.path.join(folder, "long.trace")
+    with open(trace, "w") as file:
+        file.write("rvtl-trace 1\nT 1 4 0x80000000\nI 0x80000000 6f000000000000000000000000000000\n")
+        file.write("R 0 0x80000000 0x0000006f - -\n" * 900000 + "H 0 run\n")
+    statuses = set()
+    for mib in (48, 64, 80, 96, 112, 128):
+        room = mib << 20
+        end = ran([rvtl, "check", trace], preexec_fn=lambda: resource.setrlimit(resource.RLIMIT_AS, (room, room)))
+        err = end.stderr.decode().splitlines()
+        statuses.add(end.returncode)
+        if end.returncode == 4:
+            kib = re.fullmatch(r"note: (\d+) KiB of memory were taken, and no more was to be had", err[1])
+            is_well = err[0] == "rvtl: out of memory" and len(err) == 2 and kib and 0 < int(kib[1]) <= mib << 10
+            tell(f"a trace in {mib} MiB", is_well, end)
+    tell("memory ends in some of so many", 4 in statuses, statuses)
+
+
+def steering_words(rvtl):
+    """What steers a terminal, or ends a line, is escaped in the usage's own messages too."""
+    word = "\x1b[2J\n"
+    for name, words in [("command", [word]), ("option", ["explore", f"--{word}"]), ("number", ["run", "--limit", word]),
+                        ("file too many", ["check", "a", word])]:
+        end = ran([rvtl, *words])
+        first = end.stderr.decode().splitlines()[0]
+        is_well = end.returncode == 2 and first.startswith("error: ") and "\\u{1b}[2J\\n" in first and b"\x1b" not in end.stderr
+        tell(f"a {name} that steers a terminal", is_well, end)
+
+
+def behind_a_limit(rvtl, folder):
+    """Harts that have retired as many instructions as they may end the run, whatever --limit says."""
+    journal = os.path.join(folder, "spins.script")
+    run = [rvtl, "run", "--raw", "--harts", "2", "--limit", "1000000000", "--journal", journal, os.path.join(folder, "spin.bin")]
+    ends("harts at their limits", run, 0,
+         ["hart 0: run", "hart 1: run",
+          "note: harts 0 and 1 hadn't ended when a limit was met: 1000000 instructions of a hart"])
+
+
+def another_order(rvtl, folder):
+    """What a trace or a script doesn't say, or was made for another program, is remarked."""
+    trace = os.path.join(folder, "unstated.trace")
+    with open(os.path.join(EXAMPLES, "legal.trace")) as file, open(trace, "w") as unstated:
+        unstated.writelines(line for line in file if not line.startswith("P "))
+    ends("a trace that states no order", [rvtl, "check", trace], 0,
+         ["note: no P line states an order, so that of hart 0's operations, then hart 1's, and so on, was judged"])
+    script = os.path.join(folder, "longer.script")
+    with open(script, "w") as file:
+        file.write("rvtl-script 1 1 4 4 2\n" + "step 0\n" * 5)
+    ends("a script of another program", [rvtl, "replay", "--raw", IMAGE, script], 0,
+         ["hart 0: exit 5",
+          "note: 3 of the script's 5 events changed nothing, that of line 4 first (Halted): is it for this program?"])
 
 
 def interrupted(rvtl, folder):
@@ -214,6 +275,10 @@ def main():
              ["rvtl: \\u{1b}[2J\\n: cannot read", "note: there is no such file or folder"])
         ends("a program without an end", [rvtl, "explore", "/dev/zero"], 1,
              ["rvtl: /dev/zero: cannot read", "note: it has more than 268435456 bytes, and no more is read"])
+        steering_words(rvtl)
+        behind_a_limit(rvtl, folder)
+        another_order(rvtl, folder)
+        memory_ends(rvtl, folder)
         refused_programs(rvtl, folder)
         interrupted(rvtl, folder)
         fifo = os.path.join(folder, "fifo")

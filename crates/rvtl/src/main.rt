@@ -1,9 +1,13 @@
 //! The program `rvtl`: the command line over the system's files and streams.
 #![tactic(auto)]
 
+mod memory;
 mod streams;
+mod words;
 
+use crate::memory::most_taken;
 use crate::streams::{Messages, Output};
+use crate::words::told;
 use command_files::{Remarked, SystemFiles, WithInput};
 use command_line::run_program;
 use exit_codes::code_of;
@@ -20,6 +24,9 @@ use std::time::Clock;
 
 /// How many bytes of stack the program has, whatever the system gives the process.
 const STACK: usize = 8 << 20;
+
+/// The status where memory ended.
+const OUT_OF_MEMORY: u8 = 4;
 
 fn main(rt: HostRuntime) -> ExitCode {
     let rt = &rt;
@@ -52,7 +59,7 @@ fn run<
     E: Write + IsTerminal + Drop,
 >(rt: &R, out: O, err: E) -> io::Result<u8> {
     let alloc = rt.alloc();
-    let words: Vec<String> = env::args(rt)?.collect(alloc)?;
+    let words = told(alloc, env::args(rt)?.collect(alloc)?)?;
     let progress = if err.is_terminal() {
         ProgressLine::start(rt).ok()
     } else {
@@ -71,11 +78,26 @@ fn run<
         &mut err,
         &progress,
     );
-    if let Some(error) = lost.get() {
-        let _ = writeln!(err, "note: {}", FileNote(error));
-    }
-    if let Some(remark) = files.last() {
-        let _ = writeln!(err, "note: {remark}");
+    if status == OUT_OF_MEMORY {
+        // What was remarked before isn't why the command ended.
+        tell_memory(rt, &mut err);
+    } else {
+        if let Some(error) = lost.get() {
+            let _ = writeln!(err, "note: {}", FileNote(error));
+        }
+        if let Some(remark) = files.last() {
+            let _ = writeln!(err, "note: {remark}");
+        }
     }
     Ok(status)
+}
+
+/// Tells how much memory there was, as far as the system tells.
+fn tell_memory<R: Files, E: Write>(rt: &R, err: &mut E) {
+    if let Some(kib) = most_taken(rt) {
+        let _ = writeln!(
+            err,
+            "note: {kib} KiB of memory were taken, and no more was to be had"
+        );
+    }
 }
