@@ -1,4 +1,8 @@
 pub mod Adding
+pub mod Answering
 pub mod Ends
+pub mod Lines
 pub mod Machine
-pub mod Ordered
+pub mod Numbers
+pub mod Walking
+pub mod Words

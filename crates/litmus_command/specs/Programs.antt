@@ -6,12 +6,24 @@ use Rattle.elf_loader.specs.Raw.{raw_answer}
 use Rattle.architecture_outcomes.specs.Words.{CanShowEach}
 use Rattle.litmus_answers.specs.declared.layout.Layout.{Layout}
 use Rattle.litmus_command.specs.declared.program.Program.{Program}
+use Rattle.machine_types.specs.declared.config.Config.{Config}
+use Rattle.machine_types.specs.declared.model.MemoryModel.{MemoryModel}
+use Rattle.tl_types.specs.declared.line.LineSize.TheVariants.{Bytes16}
 
 -- the words' bytes, of each the lowest first
 abbrev pub bytes_of : List ℕ → List ℕ
 bytes_of = flat_map (to_le_bytes w32)
 
--- the image is the test's words in 64 KiB, and its memory has the locations that are told
-pub record IsProgram (layout : Layout) (p : Program) : Type 0 where
+-- the machine has so many harts, with caches of 4 sets of 2 lines of 16 bytes, and keeps this model
+pub record IsMachine (harts : ℕ) (model : MemoryModel) (config : Config) : Type 0 where
+  pub harts_are : config.harts ≡ harts
+  pub sets : config.sets ≡ 4
+  pub ways : config.ways ≡ 2
+  pub line : config.line ≡ Bytes16
+  pub model_is : config.model ≡ model
+
+-- the image is the test's words in 64 KiB, its memory has the locations that are told, and the machine is of the test's harts and of this model
+pub record IsProgram (harts : ℕ) (model : MemoryModel) (layout : Layout) (p : Program) : Type 0 where
   pub image : raw_answer (bytes_of layout.words.items) 65536 ≡ Ok p.image
   pub shows : CanShowEach p.image layout.addresses.items
+  pub machine : IsMachine harts model p.config

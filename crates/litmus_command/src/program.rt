@@ -4,9 +4,9 @@ ghost use Rattle.elf_loader.specs.Raw.{raw_answer};
 ghost use Rattle.architecture_outcomes.specs.Words.{CanShowEach};
 ghost use Rattle.litmus_command.specs.Programs as programs;
 
-use crate::fault::Trouble;
+use crate::fault::Halt;
 use architecture_outcomes::performed_words::can_show;
-use elf_loader::{Image, raw, size_of_kib};
+use elf_loader::{Image, LoadError, raw, size_of_kib};
 use litmus_answers::Layout;
 use machine_types::{Config, MemoryModel};
 use std::alloc::{AllocError, Global};
@@ -44,16 +44,17 @@ fn bytes_of(alloc: Global, words: &[u32]) -> Result<Vec<u8>, AllocError>
 }
 
 /// The image of these words, unless memory ends or they are too many.
-fn image_of(alloc: Global, words: &[u32]) -> Option<Image>
-    ensures { IfSome result (λ image. raw_answer (programs.bytes_of words.now) 65536 ≡ Ok image) }
+fn image_of(alloc: Global, words: &[u32]) -> Result<Image, Halt>
+    ensures { IfOk result (λ image. raw_answer (programs.bytes_of words.now) 65536 ≡ Ok image) }
 {
-    let Ok(bytes) = bytes_of(alloc, words) else {
-        return None;
+    let bytes = bytes_of(alloc, words)?;
+    let Some(size) = size_of_kib(KIB) else {
+        return Err(Halt::Unfit);
     };
-    let size = size_of_kib(KIB)?;
     match raw(alloc, &bytes, size) {
-        Ok(image) => Some(image),
-        Err(_) => None,
+        Ok(image) => Ok(image),
+        Err(LoadError::NoMemory) => Err(Halt::NoMemory),
+        Err(_) => Err(Halt::Unfit),
     }
 }
 
@@ -70,7 +71,9 @@ fn can_show_each(image: &Image, addresses: &[u32]) -> bool
 }
 
 /// The machine that runs a test of so many harts.
-fn machine_of(harts: u8, model: MemoryModel) -> Option<Config> {
+fn machine_of(harts: u8, model: MemoryModel) -> Option<Config>
+    ensures { IfSome result (programs.IsMachine harts model) }
+{
     let line = LineSize::of_bytes(LINE)?;
     Config::new(u32::from(harts), SETS, WAYS, line, model)
 }
@@ -81,17 +84,15 @@ pub(crate) fn program_of(
     layout: &Layout,
     harts: u8,
     model: MemoryModel,
-) -> Result<Program, Trouble>
-    ensures { IfOk result (programs.IsProgram layout.now) }
+) -> Result<Program, Halt>
+    ensures { IfOk result (programs.IsProgram harts model layout.now) }
 {
-    let Some(image) = image_of(alloc, &layout.words) else {
-        return Err(Trouble::NoMemory);
-    };
+    let image = image_of(alloc, &layout.words)?;
     let Some(config) = machine_of(harts, model) else {
-        return Err(Trouble::NoMemory);
+        return Err(Halt::Unfit);
     };
     if !can_show_each(&image, &layout.addresses) {
-        return Err(Trouble::NoMemory);
+        return Err(Halt::Unfit);
     }
     Ok(Program { image, config })
 }

@@ -2,7 +2,7 @@
 ghost use Rattle.std.specs.Prelude.{◌≡◌, ◌≤◌, [], length, IfOk, OnOk};
 ghost use Rattle.litmus_command.specs.States as states;
 
-use crate::fault::Trouble;
+use crate::fault::Halt;
 use crate::rows::{counts, row_of, stopped};
 use architecture_outcomes::{Outcome, Way};
 use litmus_answers::Layout;
@@ -34,12 +34,12 @@ fn add(
     filter: &Option<Vec<Step>>,
     outcome: &Outcome,
     rows: &mut Vec<Vec<u32>>,
-) -> Result<(), Trouble>
+) -> Result<(), Halt>
     requires { length layout.now.names.items ≤ 64 }
     ensures { OnOk result (states.plain rows.new.items ≡ states.added layout.now filter.now (states.plain rows.old.items) outcome.now) }
 {
     if let Some((hart, cause)) = stopped(&outcome.harts) {
-        return Err(Trouble::Stops { hart, cause });
+        return Err(Halt::Stops { hart, cause });
     }
     let row = row_of(alloc, &layout.told, &outcome.harts, &outcome.words)?;
     if !counts(alloc, layout, filter, &row)? {
@@ -47,7 +47,7 @@ fn add(
     }
     match rows.push(row) {
         Ok(()) => Ok(()),
-        Err(_) => Err(Trouble::NoMemory),
+        Err(_) => Err(Halt::NoMemory),
     }
 }
 
@@ -58,7 +58,7 @@ fn found(
     filter: &Option<Vec<Step>>,
     outcomes: &[Outcome],
     of: Of,
-) -> Result<Vec<Vec<u32>>, Trouble>
+) -> Result<Vec<Vec<u32>>, Halt>
     requires { length layout.now.names.items ≤ 64 }
     ensures { IfOk result (λ rows. states.plain rows.items ≡ states.found layout.now filter.now of [] outcomes.now) }
 {
@@ -80,7 +80,7 @@ pub(crate) fn states_of(
     filter: &Option<Vec<Step>>,
     outcomes: &[Outcome],
     of: Of,
-) -> Result<Vec<Vec<u32>>, Trouble>
+) -> Result<Vec<Vec<u32>>, Halt>
     requires { length layout.now.names.items ≤ 64 }
     ensures { IfOk result (λ rows. states.AreStates layout.now filter.now of outcomes.now rows.items) }
 {

@@ -1,5 +1,5 @@
--- What is left of states that are sorted, each once.
-use Rattle.std.proofs.Common.{◌≡◌, ◌∙◌, ◌<◌, ◌↔◌, ℕ, suc, zero, Bool, true, List, [], ◌∷◌, Contains, IsPermutation, Ordering, map, length, arith, refl, sym, subst, ap}
+-- What is left of texts that are sorted, each once.
+use Rattle.std.proofs.Common.{◌≡◌, ◌∙◌, ◌<◌, ◌↔◌, ◌++◌, ℕ, suc, zero, Bool, true, List, [], ◌∷◌, Contains, IsPermutation, Ordering, map, length, arith, refl, sym, subst, ap}
 use Rattle.std.specs.Global.{Vec}
 use Rattle.std.specs.Cmp.Lexicographic.{bytes_decides, on_texts, on_texts_equal, pointwise, slice_cmp, texts_ties}
 use Rattle.std.specs.List.{dedup}
@@ -9,8 +9,9 @@ use Rattle.std.specs.Ordering.{nat_cmp, on}
 use Rattle.std.specs.Prelude.{nat_eq}
 use Rattle.std.proofs.lemmas.List.Filters.{dedup_is}
 use Rattle.std.proofs.lemmas.List.Kept.{Any-dedup, Contains-from_dedup, IsStrictlySortedBy-dedup}
-use Rattle.std.proofs.lemmas.List.Sorted.{Contains-permutation}
-use Rattle.litmus_command.specs.States.{plain, state_cmp}
+use Rattle.std.proofs.lemmas.List.{map-append}
+use Rattle.std.proofs.lemmas.List.Sorted.{Contains-permutation, IsPermutation-sym}
+use Rattle.litmus_answers.specs.Naming.{AreSorted, plain, text_cmp}
 
 -- ---- rows and what they hold
 
@@ -30,8 +31,8 @@ module _ (before sorted left : List (Vec ℕ)) (kept : IsFiltered (DiffersFromLa
   left_is : left ≡ dedup (on (λ (v : Vec ℕ). v.items) (pointwise nat_eq)) sorted
   left_is = dedup_is (on (λ (v : Vec ℕ). v.items) (pointwise nat_eq)) sorted left kept
 
-  pub rises : IsSorted state_cmp sorted → IsStrictlySortedBy state_cmp left
-  rises up = subst (IsStrictlySortedBy state_cmp) (sym left_is) (IsStrictlySortedBy-dedup (on_texts (λ (v : Vec ℕ). v.items)) (λ x y. texts_ties x.items y.items) sorted up)
+  pub rises : IsSorted text_cmp sorted → IsStrictlySortedBy text_cmp left
+  rises up = subst (IsStrictlySortedBy text_cmp) (sym left_is) (IsStrictlySortedBy-dedup (on_texts (λ (v : Vec ℕ). v.items)) (λ x y. texts_ties x.items y.items) sorted up)
 
   pub has_each : IsPermutation before sorted → (s : List ℕ) → Contains (plain before) s → Contains (plain left) s
   has_each moved s c =
@@ -48,3 +49,18 @@ module _ (before sorted left : List (Vec ℕ)) (kept : IsFiltered (DiffersFromLa
       let in_dedup = subst (λ (l : List (Vec ℕ)). Contains l row.0) left_is row.1 in
       let in_sorted = Contains-from_dedup (on (λ (v : Vec ℕ). v.items) (pointwise nat_eq)) sorted row.0 in_dedup in
       subst (Contains (plain before)) row.2 (to_plain before row.0 (Contains-permutation sorted before row.0 moved in_sorted))
+
+-- ---- the whole
+
+pub pushed : (names : List (Vec ℕ)) (name : Vec ℕ) → plain (names ++ (name ∷ [])) ≡ plain names ++ (name.items ∷ [])
+pushed names name = map-append (λ (v : Vec ℕ). v.items) names (name ∷ [])
+
+pub sorted_once : (texts : List (List ℕ)) (before sorted left : List (Vec ℕ)) → plain before ≡ texts → IsPermutation before sorted → IsSorted text_cmp sorted
+    → IsFiltered (DiffersFromLast (on (λ (v : Vec ℕ). v.items) (pointwise nat_eq))) [] sorted left → AreSorted texts left
+sorted_once texts before sorted left is moved up kept = record {
+  order = rises before sorted left kept up;
+  each = λ text. (
+    λ told. has_each before sorted left kept moved text (subst (λ (l : List (List ℕ)). Contains l text) (sym is) told),
+    λ told. subst (λ (l : List (List ℕ)). Contains l text) is (has_no_other before sorted left kept (IsPermutation-sym _ _ moved) text told),
+  );
+}
