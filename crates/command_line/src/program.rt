@@ -25,7 +25,7 @@ fn is_litmus<S: AsStr>(words: &[S]) -> bool
 
 /// Does what the words ask for, the first of which is the program's name, and answers the exit status: `litmus` does what
 /// `litmus_line` says, all others what `run_line` says.
-#[tactic(auto, using(crate::proofs::Litmus::has_command))]
+#[tactic(auto, using(crate::proofs::Litmus::has_command, crate::proofs::Litmus::of_litmus))]
 pub fn run_program<
     R: Threads + Wait + Sync,
     S: AsStr,

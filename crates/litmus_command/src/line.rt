@@ -106,7 +106,7 @@ fn answer_file<F: Files, O: Write, E: Write>(
     err: &mut E,
 ) -> Ended
     requires states { 0 < wanted.states }
-    requires logs { waiting.are_named logs.now ≡ wishes.are_compared (wishes.wishes wanted.now) }
+    requires logs { waiting.are_named logs.now ≡ wishes.are_compared (wishes.wishes wanted) }
     ensures end { ends.Ends (F.held files.old) (wishes.wishes wanted.entry) name.now (O.contents out.old) (O.contents out.new) result }
     ensures stays { F.held files.new ≡ F.held files.old }
 {
@@ -209,7 +209,7 @@ fn take<F: Files, O: Write, E: Write>(
     err: &mut E,
 ) -> Option<Ended>
     requires states { 0 < wanted.states }
-    requires logs { waiting.are_named logs.now ≡ wishes.are_compared (wishes.wishes wanted.now) }
+    requires logs { waiting.are_named logs.now ≡ wishes.are_compared (wishes.wishes wanted) }
     requires lists { lists.old ≤ 1000 }
     ensures lists { lists.new ≤ 1000 }
     ensures took { waiting.Takes (F.held files.old) (wishes.wishes wanted.entry) name.now (waiting.waiting pending.old.items) lists.old (O.contents out.old)
@@ -248,7 +248,7 @@ fn take_next<F: Files, O: Write, E: Write>(
     err: &mut E,
 ) -> Result<(), u8>
     requires states { 0 < wanted.states }
-    requires logs { waiting.are_named logs.now ≡ wishes.are_compared (wishes.wishes wanted.now) }
+    requires logs { waiting.are_named logs.now ≡ wishes.are_compared (wishes.wishes wanted) }
     requires lists { lists.old ≤ 1000 }
     ensures lists { lists.new ≤ 1000 }
     ensures counted { IfOk result (λ _. waiting.GoesOn (F.held files.old) (wishes.wishes wanted.entry) name.now (waiting.waiting pending.old.items) lists.old counts.old (O.contents out.old)
@@ -280,7 +280,7 @@ fn answer_all<F: Files, O: Write, E: Write>(
     err: &mut E,
 ) -> Result<Counts, u8>
     requires states { 0 < wanted.states }
-    requires logs { waiting.are_named logs.now ≡ wishes.are_compared (wishes.wishes wanted.now) }
+    requires logs { waiting.are_named logs.now ≡ wishes.are_compared (wishes.wishes wanted) }
     ensures counts { IfOk result (line.AreCounted (F.held files.old) (wishes.wishes wanted.entry) (texts names.now) (O.contents out.old) (O.contents out.new)) }
     ensures cut { IfErr result (line.AreCut (F.held files.old) (wishes.wishes wanted.entry) (texts names.now) (O.contents out.old) (O.contents out.new)) }
     ensures stays { F.held files.new ≡ F.held files.old }
