@@ -120,6 +120,7 @@ pub record IsFencesMeant (rows : List Row) (fences : Fences) : Type 0 where
 pub record IsCheckMeant (rows : List Row) (check : Check) : Type 0 where
   pub messages : IsFlag (codes "messages") rows check.messages
   pub ended : IsFlag (codes "ended") rows check.ended
+  pub all : IsFlag (codes "all") rows check.all
   pub model : IsModel rows check.model
   pub trace : IsText (codes "TRACE") rows check.trace.now
 

@@ -153,6 +153,7 @@ fn check_command<'a>(alloc: Global, models: &'a [&'a str]) -> Result<Command<'a>
     let command = described(alloc, "check", about, CHECK_HELP);
     let command = add_arg(Ok(command), messages(alloc));
     let command = add_arg(command, ended(alloc));
+    let command = add_arg(command, all_faults(alloc));
     let command = add_arg(command, judged_model(alloc, models));
     add_arg(command, trace(alloc))
 }
@@ -442,6 +443,17 @@ fn ended<'a>(alloc: Global) -> Arg<'a>
         alloc,
         "ended",
         "with --messages, also ask that each question has its answer by the end",
+    )
+}
+
+fn all_faults<'a>(alloc: Global) -> Arg<'a>
+    ensures rule { rule_of result ≡ flag_rule (codes "all") }
+    ensures local { result.global ≡ false }
+{
+    flag(
+        alloc,
+        "all",
+        "with --messages, list all messages that break a rule, and not the first alone",
     )
 }
 

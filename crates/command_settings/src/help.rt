@@ -187,6 +187,8 @@ the first has to be performed before the second:
 With --messages the trace may end behind its M lines, and need not come from rvtl; --model says nothing then.
 It prints lawful, or with status 3 unlawful, a rule and the number of the message, from 0, that breaks it.
 Where a question has no answer by the end, a note tells; with --ended the first such question is unlawful.
+With --all it prints such a line for each message that breaks a rule, the state following each as it was sent,
+up to 100 of them, and then how many more there are.
 A message is M s CHANNEL HART .. where it is sent, M t CHANNEL HART .. where it is taken, with behind it
   on A  AcquireBlock LINE NtoB, NtoT or BtoT
   on B  ProbeBlock LINE toT, toB or toN
@@ -195,5 +197,6 @@ A message is M s CHANNEL HART .. where it is sent, M t CHANNEL HART .. where it 
   on D  Grant LINE and toT, toB or toN; GrantData LINE and the same, then DATA; or ReleaseAck LINE
   on E  GrantAck LINE
 LINE is a line's address, 0x and 8 lower-case digits; DATA has 2 for each byte of the line, the lowest first.
+Behind a message may stand ; and a name of up to 72 bytes (a time, a source id), which is told with its fault.
 
 Example: rvtl check examples/legal.trace";

@@ -248,6 +248,7 @@ fn check_of<'a>(matches: &ArgMatches<'a>) -> Option<Check<'a>>
     Some(Check {
         messages: matches.get_flag("messages"),
         ended: matches.get_flag("ended"),
+        all: matches.get_flag("all"),
         model,
         trace,
     })

@@ -203,6 +203,8 @@ pub struct Check<'a> {
     pub messages: bool,
     /// Each question among the messages has its answer by the end.
     pub ended: bool,
+    /// List all messages that break a rule, and not the first alone.
+    pub all: bool,
     /// Under which the order is judged.
     pub model: MemoryModel,
     pub trace: &'a str,
