@@ -1,2 +1,4 @@
+mod Lines
+mod Placed
 pub mod Running
 pub mod Taken

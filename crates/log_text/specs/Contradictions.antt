@@ -1,10 +1,10 @@
 -- What is told of a message that breaks a rule of the coherent log.
-use Rattle.std.specs.Prelude.{ℕ, ◌≡◌, ◌≤◌, true, List, Option, Some, None, length, slice_get}
+use Rattle.std.specs.Prelude.{ℕ, ◌≡◌, ◌≤◌, List, Option, Some, None, length, slice_get}
 use Rattle.coherent_log.specs.declared.clients.Held.{Held}
 use Rattle.coherent_log.specs.declared.clients.Probed.{Probed}
 use Rattle.coherent_log.specs.declared.verdict.Breach.{Breach}
 use Rattle.coherent_log.specs.declared.verdict.Breach.TheVariants.{PermissionHeld, ProbeObeyed, OneWriter, DataAsked, DataKept}
-use Rattle.log_text.specs.Places.{message_line}
+use Rattle.log_text.specs.Places.{IsPlaceOf}
 use Rattle.log_text.specs.declared.contradiction.Contradiction.{Contradiction}
 use Rattle.trace_recorder.specs.declared.logged.Logged.{Logged}
 
@@ -29,17 +29,12 @@ abbrev pub probe_of : Breach → Option ℕ
 probe_of (ProbeObeyed held probe) = index_of probe
 probe_of _ = None
 
--- where that message stands in a text
-abbrev pub line_of : List ℕ → Option ℕ → Option ℕ
-line_of bytes None = None
-line_of bytes (Some index) = message_line true 0 index bytes
-
--- the breach, the entry at that index, and the lines of the messages that it contradicts; nothing beyond the log
+-- the breach, the entry at that index, and where the messages that it contradicts stand; nothing beyond the log
 pub record IsContradiction (broken : Breach) (index : ℕ) (log : List Logged) (bytes : List ℕ) (c : Contradiction) : Type 0 where
   pub breach : c.breach ≡ broken
   pub entry : slice_get log index ≡ Some c.entry
-  pub cause : c.cause ≡ line_of bytes (cause_of broken)
-  pub probe : c.probe ≡ line_of bytes (probe_of broken)
+  pub cause : IsPlaceOf (cause_of broken) bytes c.cause
+  pub probe : IsPlaceOf (probe_of broken) bytes c.probe
 
 abbrev pub Contradicts : Breach → ℕ → List Logged → List ℕ → Option Contradiction → Type 0
 Contradicts breach index log bytes None = length log ≤ index

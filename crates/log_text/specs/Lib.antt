@@ -1,5 +1,6 @@
 pub mod Contradictions
 pub mod Ending
+pub mod Names
 pub mod Objections
 pub mod Places
 pub mod Verdicts

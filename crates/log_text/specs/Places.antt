@@ -1,5 +1,7 @@
--- On which line of a text a message stands.
-use Rattle.std.specs.Prelude.{ℕ, ◌+◌, ◌-◌, Bool, true, false, ◌&&◌, List, ◌∷◌, [], Option, Some, None, ◌==◌, codes, if◌then◌else◌, is_some}
+-- On which line of a text a message stands, and by which name.
+use Rattle.std.specs.Prelude.{ℕ, ◌≡◌, ◌+◌, ◌-◌, Bool, true, false, ◌&&◌, List, ◌∷◌, [], Option, Some, None, ◌==◌, codes, if◌then◌else◌, is_some, option_map}
+use Rattle.log_text.specs.Names.{name_at}
+use Rattle.log_text.specs.declared.place.Place.{Place}
 use Rattle.text_fields.specs.Reading.{after}
 
 -- a line begins there, and it is a message's
@@ -17,3 +19,13 @@ message_line is_start lines messages (byte ∷ bytes) =
     if is_message is_start (byte ∷ bytes)
     then (if messages == 0 then Some (lines + 1) else message_line (byte == 10) (lines_behind byte lines) (messages - 1) bytes)
     else message_line (byte == 10) (lines_behind byte lines) messages bytes
+
+-- the message stands there, and has this name, if it has one; or the text has no such message
+abbrev pub IsPlace : ℕ → List ℕ → Option Place → Type 0
+IsPlace index text None = message_line true 0 index text ≡ None
+IsPlace index text (Some place) = (message_line true 0 index text ≡ Some place.line) × (option_map (λ name. name.now) place.name ≡ name_at index text)
+
+-- that is where it stands, if there is one that is meant
+abbrev pub IsPlaceOf : Option ℕ → List ℕ → Option Place → Type 0
+IsPlaceOf None text place = place ≡ None
+IsPlaceOf (Some index) text place = IsPlace index text place

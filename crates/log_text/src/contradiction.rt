@@ -1,8 +1,9 @@
 //! What a message of a log contradicts, in words.
 ghost use Rattle.std.specs.Prelude.{◌≡◌};
-ghost use Rattle.log_text.specs.Contradictions.{Contradicts, cause_of, index_of, line_of, probe_of, since_of};
+ghost use Rattle.log_text.specs.Contradictions.{Contradicts, cause_of, index_of, probe_of, since_of};
+ghost use Rattle.log_text.specs.Places.{IsPlaceOf};
 
-use crate::place::line_of_message;
+use crate::place::Place;
 use crate::spelling::{Routed, cap_name, change_name};
 use coherent_log::{Breach, Held, Probed};
 use std::fmt;
@@ -13,28 +14,32 @@ use trace_recorder::Logged;
 /// A message that breaks a rule of the coherent log, and where in the log's text stands what it contradicts. Its
 /// text is as `GrantData 0x80000100 toT to hart 1: hart 0 holds Trunk of this line by line 5, and has to be probed
 /// first`.
-#[derive(Clone, Copy, Debug)]
-pub struct Contradiction {
+#[derive(Clone, Copy)]
+pub struct Contradiction<'a> {
     pub breach: Breach,
     pub entry: Logged,
-    /// The line of the text, counted from 1, of the message that left the permission that the breach speaks of, or
-    /// that brought the bytes.
-    pub cause: Option<usize>,
-    /// That of the Probe that the entry answers.
-    pub probe: Option<usize>,
+    /// Where the message stands that left the permission that the breach speaks of, or that brought the bytes.
+    pub cause: Option<Place<'a>>,
+    /// Where the Probe stands that the entry answers.
+    pub probe: Option<Place<'a>>,
 }
 
-impl Contradiction {
+impl<'a> Contradiction<'a> {
     /// Of the entry at `index` of a log that stands in this text, which the breach is of. None beyond the log.
-    pub fn of(bytes: &[u8], log: &[Logged], breach: Breach, index: usize) -> Option<Contradiction>
+    pub fn of(
+        bytes: &'a [u8],
+        log: &[Logged],
+        breach: Breach,
+        index: usize,
+    ) -> Option<Contradiction<'a>>
         ensures { Contradicts breach index log.now bytes.now result }
     {
         let entry = *log.get(index)?;
         Some(Contradiction {
             breach,
             entry,
-            cause: line_of(bytes, cause_of(breach)),
-            probe: line_of(bytes, probe_of(breach)),
+            cause: place_of(bytes, cause_of(breach)),
+            probe: place_of(bytes, probe_of(breach)),
         })
     }
 
@@ -58,7 +63,7 @@ impl Contradiction {
                 f.write_str(", and only a hart that holds Trunk has data to send")
             }
             Breach::DataKept { brought: _ } => match self.cause {
-                Some(line) => write!(f, "its bytes aren't those that line {line} brought"),
+                Some(place) => write!(f, "its bytes aren't those that {place} brought"),
                 None => f.write_str(
                     "its bytes aren't those of memory at the start, which I lines tell (zeros where none does)",
                 ),
@@ -75,7 +80,7 @@ impl Contradiction {
         let perm = perm_name(perm_in(held));
         write!(f, "hart {hart} holds {perm} of this line")?;
         match self.cause {
-            Some(line) => write!(f, " by line {line}"),
+            Some(place) => write!(f, " by {place}"),
             None => Ok(()),
         }
     }
@@ -87,20 +92,17 @@ impl Contradiction {
         probe: Option<Probed>,
         f: &mut fmt::Formatter<W>,
     ) -> fmt::Result {
-        let (Some(probe), Some(line)) = (probe, self.probe) else {
+        let (Some(probe), Some(place)) = (probe, self.probe) else {
             return Ok(());
         };
         let (_, change) = shrink(perm, probe.cap);
         let asked = cap_name(probe.cap);
         let answer = change_name(change);
-        write!(
-            f,
-            ", so the Probe{asked} of line {line} is answered by{answer}"
-        )
+        write!(f, ", so the Probe{asked} of {place} is answered by{answer}")
     }
 }
 
-impl Display for Contradiction {
+impl Display for Contradiction<'_> {
     fn fmt<W: fmt::Write>(&self, f: &mut fmt::Formatter<W>) -> fmt::Result {
         write!(f, "{}: ", Routed(self.entry))?;
         self.put_cause(f)
@@ -153,11 +155,11 @@ fn probe_of(breach: Breach) -> Option<usize>
 }
 
 // Where the message of this number stands.
-fn line_of(bytes: &[u8], index: Option<usize>) -> Option<usize>
-    ensures { result ≡ line_of bytes.now index }
+fn place_of(text: &[u8], index: Option<usize>) -> Option<Place<'_>>
+    ensures { IsPlaceOf index text.now result }
 {
     match index {
-        Some(index) => line_of_message(bytes, index),
+        Some(index) => Place::of(text, index),
         None => None,
     }
 }

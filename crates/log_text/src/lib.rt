@@ -1,9 +1,10 @@
-//! Logs of messages as texts: a trace that ends behind its log, the verdict on a log as a line, where in
-//! the text a message stands, and what stands against it in words.
+//! Logs of messages as texts: a trace that ends behind its log, the names behind its messages, the verdict on a log as a
+//! line, where in the text a message stands, and what stands against it in words.
 #![tactic(auto)]
 
 mod contradiction;
 mod ending;
+mod names;
 mod objection;
 mod place;
 mod spelling;
@@ -14,7 +15,8 @@ mod waiting;
 pub use contradiction::Contradiction;
 pub use ending::end_text;
 pub use message_judge;
+pub use names::{misnamed_line, name_of_message, without_names};
 pub use objection::Objection;
-pub use place::line_of_message;
+pub use place::{Place, line_of_message};
 pub use unanswered::Unanswered;
 pub use verdict::put_verdict;

@@ -1,8 +1,41 @@
 //! Where in a text a message stands.
 ghost use Rattle.std.specs.Prelude.{◌≡◌, true};
-ghost use Rattle.log_text.specs.Places.{message_line};
+ghost use Rattle.log_text.specs.Places.{IsPlace, message_line};
 
+use crate::names::name_of_message;
+use std::fmt;
+use std::fmt::Display;
 use text_fields::after;
+
+/// Where a message stands in a log's text, and the name that it has there. Its text is as `line 5`, or `line 5 (at 120)`.
+#[derive(Clone, Copy)]
+pub struct Place<'a> {
+    /// The line of the text, counted from 1.
+    pub line: usize,
+    pub name: Option<&'a [u8]>,
+}
+
+impl<'a> Place<'a> {
+    /// Of the message of this index, counted from 0. None where the text has no such message.
+    pub fn of(text: &'a [u8], index: usize) -> Option<Place<'a>>
+        ensures { IsPlace index text.now result }
+    {
+        let line = line_of_message(text, index)?;
+        Some(Place {
+            line,
+            name: name_of_message(text, index),
+        })
+    }
+}
+
+impl Display for Place<'_> {
+    fn fmt<W: fmt::Write>(&self, f: &mut fmt::Formatter<W>) -> fmt::Result {
+        match self.name {
+            None => write!(f, "line {}", self.line),
+            Some(name) => write!(f, "line {} ({})", self.line, name.escape_ascii()),
+        }
+    }
+}
 
 /// The line, counted from 1, on which the message of this index, counted from 0, stands in a trace's text.
 pub fn line_of_message(bytes: &[u8], index: usize) -> Option<usize>
