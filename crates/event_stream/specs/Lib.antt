@@ -19,7 +19,6 @@ pub use Rattle.coherent_machine.specs.Machine
 pub use Rattle.coherent_machine.specs.TheVariants as ApplyErrorVariants
 pub use Rattle.coherent_machine.specs.ApplyError
 pub use Rattle.coherent_machine.specs.Applying
-pub use Rattle.machine_model.specs.Events.Verdict
 pub use Rattle.machine_model.specs.Events
 pub use Rattle.machine_model.specs.Views
 pub use Rattle.machine_model.specs.Laws as MachineModelLaws

@@ -10,13 +10,13 @@ ghost use Rattle.image_orderings.specs.Programs.{is_kept};
 ghost use Rattle.exploration_text.specs.Naming.{place_before};
 ghost use Rattle.text_fields.specs.Fields.{word as hexadecimal};
 
+use crate::{Answer, Audit, Search, is_whole, search_in};
 use architecture_outcomes::Outcome;
 use architecture_outcomes::window_search::Reach;
 use assembly::spell_assembly;
 use elf_symbols::Symbols;
 use exploration_text::order_text::spell_place;
 use exploration_text::{WordName, end_text};
-use fence_audit::{Answer, Audit, Search, is_whole, search_in};
 use image_orderings::{
     ImageOrdering, Part, Patch, is_kept, patches_with, patches_without, weaker_words, word_in,
 };

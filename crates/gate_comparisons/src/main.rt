@@ -2,6 +2,9 @@
 //! and published answers, and prints what comes of it.
 #![tactic(auto)]
 
+mod kept_files;
+mod transcripts;
+
 use anyhow::Result;
 use std::env;
 use std::io::Write;
@@ -29,8 +32,8 @@ fn compare_all<R: Files + Threads + Wait + Print + Eprint + Sync + AllocGlobal, 
     gate_rv32_vectors::compare_all(rt)?;
     gate_refusals::play_all(rt)?;
     gate_machine_comparisons::compare_all(rt)?;
-    crate::kept_files::take_all(rt, out)?;
-    crate::transcripts::play_all(rt, out)?;
+    kept_files::take_all(rt, out)?;
+    transcripts::play_all(rt, out)?;
     gate_plain_comparisons::judge_all(rt, out)?;
     gate_plain_comparisons::play_all(rt.alloc(), out)?;
     out.flush()?;

@@ -37,8 +37,8 @@ mod lost_update;
 mod stage;
 mod stream;
 
+use crate::transcripts::stage::Stage;
 use anyhow::{Context, Result};
-use stage::Stage;
 use std::fs;
 use std::io::Write;
 use std::rt::Files;

@@ -12,7 +12,7 @@ use Rattle.event_stream.specs.declared.strictness.Strictness.{Strictness}
 use Rattle.machine_types.specs.declared.config.Config.{Config}
 use Rattle.machine_types.specs.declared.event.Event.{Event}
 use Rattle.event_stream.specs.Events.{Verdict}
-use Rattle.event_stream.specs.Verdict.{Keeps as Stays}
+use Rattle.event_stream.specs.Events.Verdict.{Keeps as Stays}
 use Rattle.event_stream.specs.Views.{State, opening}
 use Rattle.event_stream.specs.ApplyErrorVariants as applying
 use Rattle.text_fields.specs.Writing.{Begins}

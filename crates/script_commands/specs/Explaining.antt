@@ -19,7 +19,7 @@ use Rattle.event_stream.specs.declared.errors.StreamError.TheVariants as stream
 use Rattle.event_stream.specs.declared.errors.StreamError.{StreamError}
 use Rattle.event_stream.specs.declared.strictness.Strictness.TheVariants.{Strict}
 use Rattle.event_stream.specs.declared.strictness.Strictness.{Strictness}
-use Rattle.event_stream.specs.Verdict.{Keeps}
+use Rattle.event_stream.specs.Events.Verdict.{Keeps}
 use Rattle.event_stream.specs.Events.{Verdict}
 use Rattle.event_stream.specs.Views.{State, opening}
 use Rattle.machine_types.specs.declared.config.Config.{Config}

@@ -26,7 +26,7 @@ pub mod Completing
 pub mod GuessCovering
 pub mod GuessEnding
 pub mod Fates
-pub mod Following
+pub mod GuessFollowing
 pub mod Foretelling
 pub mod Instructions
 pub mod Leftover
