@@ -135,12 +135,12 @@ def memory_ends(rvtl, folder):
 def steering_words(rvtl):
     """What steers a terminal, or ends a line, is escaped in the usage's own messages too."""
     word = "\x1b[2J\n"
-    for name, words in [("command", [word]), ("option", ["explore", f"--{word}"]), ("number", ["run", "--limit", word]),
-                        ("file too many", ["check", "a", word])]:
+    for name, words in [("a command", [word]), ("an option", ["explore", f"--{word}"]), ("a number", ["run", "--limit", word]),
+                        ("a file too many", ["check", "a", word])]:
         end = ran([rvtl, *words])
         first = end.stderr.decode().splitlines()[0]
         is_well = end.returncode == 2 and first.startswith("error: ") and "\\u{1b}[2J\\n" in first and b"\x1b" not in end.stderr
-        tell(f"a {name} that steers a terminal", is_well, end)
+        tell(f"{name} that steers a terminal", is_well, end)
 
 
 def behind_a_limit(rvtl, folder):
