@@ -19,11 +19,13 @@ use Rattle.command_settings.specs.declared.wanted.Check.{Check as Judging}
 use Rattle.command_settings.specs.declared.wanted.Explain.{Explain as Telling}
 use Rattle.command_settings.specs.declared.wanted.Explore.{Explore as Sought}
 use Rattle.command_settings.specs.declared.wanted.Settings.{Settings}
-use Rattle.command_settings.specs.declared.wanted.Settings.TheVariants.{Chart, Check, Explain, Explore, Fences, Replay, Run, Show}
+use Rattle.command_settings.specs.declared.wanted.Settings.TheVariants.{Chart, Check, Explain, Explore, Fences, Page, Replay, Run, Show}
 use Rattle.command_settings.specs.declared.wanted.Show.{Show as Shown}
 use Rattle.command_files.specs.Strictness.{Strictness}
 use Rattle.script_commands.specs.Explaining.{LeavesOfStream}
 use Rattle.trace_commands.specs.Kinds.{IsHalfTold}
+use Rattle.trace_commands.specs.Pages.{IsHalfPaged, LeavesOfPage}
+use Rattle.command_settings.specs.declared.wanted.Replay.{Replay as Played}
 use Rattle.explore_command.proofs.Explored.{all_of}
 use Rattle.explore_command.proofs.Faults.{some_part}
 use Rattle.explore_command.specs.declared.judging.Judgement.{Judgement}
@@ -36,6 +38,11 @@ pub stream_left : (held : Contents) (old new : Option (List ℕ)) (explain : Tel
     → LeavesOfStream fault old new (IsHalfTold held explain.replay strictness explain.state old new)
     → LeavesOfStream fault old new (IsHalfTold held explain.replay (strictness_of explain.strict) explain.state old new)
 stream_left held old new explain strictness fault is so = subst (λ s. LeavesOfStream fault old new (IsHalfTold held explain.replay s explain.state old new)) is so
+
+-- of a page a beginning, or the page with a part of what is told, or none
+page_either : (held : Contents) (replay : Played) (old new : Option (List ℕ)) (fault : Fault) → LeavesOfPage held replay old new fault → IsHalfPaged held replay old new
+page_either held replay old new fault (inl begun) = inl begun
+page_either held replay old new fault (inr so) = inr (record { between = so.between; page = so.page; behind = stream_either so.between new _ fault so.behind })
 
 module _ (held left : Contents) (old new : Option (List ℕ)) where
   pub left_of : (wanted meant : Settings) (fault : Fault) → wanted ≡ meant → LeavesOf held left old new meant fault → LeavesOf held left old new wanted fault
@@ -63,6 +70,7 @@ module _ (held left : Contents) (old new : Option (List ℕ)) where
   either_of (Explore explore) fault so = some_part old new (ExploreHas explore.architecture (nat_lt 0 explore.sample) held explore) fault (search_begins explore.architecture (nat_lt 0 explore.sample) explore) so
   either_of (Show show) fault so = some_part old new (ShowHas show.explore.architecture held show) fault (words_begin show.explore.architecture show) so
   either_of (Chart chart) fault so = either old new _ fault so
+  either_of (Page replay) fault so = inr (page_either held replay old new fault so)
   either_of (Fences fences) fault so = either old new _ fault so
   either_of (Check check) fault so = either old new _ fault so
 

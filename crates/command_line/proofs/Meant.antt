@@ -23,7 +23,7 @@ use Rattle.command_settings.specs.declared.wanted.Fences.{Fences as Audited}
 use Rattle.command_settings.specs.declared.wanted.Run.{Run as Asked}
 use Rattle.command_settings.specs.declared.wanted.Settings.{Settings}
 use Rattle.command_settings.specs.declared.wanted.Show.{Show as Shown}
-use Rattle.command_settings.specs.declared.wanted.Settings.TheVariants.{Chart, Check, Explain, Explore, Fences, Replay, Run, Show}
+use Rattle.command_settings.specs.declared.wanted.Settings.TheVariants.{Chart, Check, Explain, Explore, Fences, Page, Replay, Run, Show}
 use Rattle.explore_command.specs.Exploring.{IsExploreFault, LeavesPart}
 use Rattle.explore_command.specs.Keeping.{SparesOthers}
 use Rattle.fences_command.specs.Fencing.{IsFencesFault}
@@ -37,6 +37,7 @@ some_states words (Show show) named = omega (arith, named.5.1.explore.states.1)
 some_states words (Replay replay) named = tt
 some_states words (Explain explain) named = tt
 some_states words (Chart chart) named = tt
+some_states words (Page replay) named = tt
 some_states words (Run run) named = tt
 some_states words (Fences fences) named = omega (arith, named.5.1.states.1)
 some_states words (Check check) named = tt
@@ -128,6 +129,7 @@ misused_early (Show show) fault two = misused_so (ComesBeforeFiles (Show show)) 
 misused_early (Replay replay) fault two = tt
 misused_early (Explain explain) fault two = tt
 misused_early (Chart chart) fault two = tt
+misused_early (Page replay) fault two = tt
 misused_early (Fences fences) fault two = tt
 misused_early (Check check) fault two = tt
 

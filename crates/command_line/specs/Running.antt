@@ -3,6 +3,7 @@ use Rattle.std.specs.Prelude.{◌≡◌, ◌≢◌, ◌⊎◌, ◌<◌, ℕ, [],
 use Rattle.clap.specs.Words.{Text}
 use Rattle.command_files.specs.Contents.{Contents}
 use Rattle.script_commands.specs.Replaying.{IsCutOff, IsReplayEndTold, IsReplayed}
+use Rattle.trace_commands.specs.Pages.{IsHalfPaged, IsPaged}
 use Rattle.trace_commands.specs.Kinds.{IsHalfTold, IsTold}
 use Rattle.fences_command.specs.Fencing.{IsAuditCutOff, IsAuditTold}
 use Rattle.explore_command.specs.Exploring.{ExplorationHas, ExplorationRefusals, IsExplorationTold}
@@ -25,7 +26,7 @@ use Rattle.command_files.specs.Sizes.{IsOutside}
 use Rattle.command_settings.specs.declared.wanted.Check.{Check as Judging}
 use Rattle.command_settings.specs.declared.wanted.Explore.{Explore as Seeking}
 use Rattle.command_settings.specs.declared.wanted.Settings.{Settings}
-use Rattle.command_settings.specs.declared.wanted.Settings.TheVariants.{Chart, Check, Explain, Explore, Fences, Replay, Run, Show}
+use Rattle.command_settings.specs.declared.wanted.Settings.TheVariants.{Chart, Check, Explain, Explore, Fences, Page, Replay, Run, Show}
 use Rattle.command_settings.specs.declared.wanted.Show.{Show as Showing}
 use Rattle.command_files.specs.Strictness.{Strictness}
 use Rattle.command_files.specs.TheVariants.{Lenient, Strict}
@@ -96,7 +97,7 @@ abbrev pub IsExploreFile : (architecture : Bool) → Seeking → Text → Type 0
 IsExploreFile true explore = IsFileInNamed explore.scripts
 IsExploreFile false explore = IsScriptFile explore.scripts
 
--- the script was replayed and its trace printed, or what each of its events did and, where that is wanted, what the machine holds at the end, or a picture of it; or what is told of a trace's order was printed; the program ran and its journal was kept and its trace printed; it was explored and each outcome is allowed; which of its orderings it needs was printed; or the trace's order is legal, or its messages
+-- the script was replayed and its trace printed, or what each of its events did and, where that is wanted, what the machine holds at the end, a picture of it, or a page that shows it; or what is told of a trace's order was printed; the program ran and its journal was kept and its trace printed; it was explored and each outcome is allowed; which of its orderings it needs was printed; or the trace's order is legal, or its messages
 abbrev pub IsDone : Contents → Contents → Option (List ℕ) → Option (List ℕ) → Settings → Type 0
 IsDone held left old new (Replay replay) = IsReplayed held replay old new
 IsDone held left old new (Explain explain) = IsTold held explain.replay (strictness_of explain.strict) explain.state old new
@@ -104,6 +105,7 @@ IsDone held left old new (Run run) = IsRun held left run old new
 IsDone held left old new (Explore explore) = ExploreCame explore.architecture (nat_lt 0 explore.sample) Allowed held left explore old new
 IsDone held left old new (Show show) = ShowCame show.explore.architecture Allowed held left show old new
 IsDone held left old new (Chart chart) = IsCharted held chart.replay chart.line old new
+IsDone held left old new (Page replay) = IsPaged held replay old new
 IsDone held left old new (Fences fences) = IsAuditTold held fences old new
 IsDone held left old new (Check check) = IsClean check.messages held check old new
 
@@ -123,12 +125,13 @@ abbrev pub ShowNoted : (architecture : Bool) → Judgement → Contents → Show
 ShowNoted true judgement held show old new before after = IsSearchNoted held show.explore show.words.items show.explore.window judgement old new before after
 ShowNoted false judgement held show old new before after = WordRefusals held show old new (IsToldBy judgement before after)
 
--- what a command that was carried out has itself put on standard error, beside what is remarked of files: of a replay and of a run a beginning of how their harts ended; of an explanation, a chart and an audit of orderings nothing; of an exploration what tells which outcomes aren't allowed
+-- what a command that was carried out has itself put on standard error, beside what is remarked of files: of a replay and of a run a beginning of how their harts ended; of an explanation, a chart, a page and an audit of orderings nothing; of an exploration what tells which outcomes aren't allowed
 abbrev pub IsNoted : Contents → Contents → (old new before after : Option (List ℕ)) → Judgement → Settings → Type 0
 IsNoted held left old new before after judgement (Replay replay) = IsReplayEndTold held replay before after
 IsNoted held left old new before after judgement (Run run) = IsRunEndTold held left run before after
 IsNoted held left old new before after judgement (Explain explain) = after ≡ before
 IsNoted held left old new before after judgement (Chart chart) = after ≡ before
+IsNoted held left old new before after judgement (Page replay) = after ≡ before
 IsNoted held left old new before after judgement (Fences fences) = after ≡ before
 IsNoted held left old new before after judgement (Check check) = CheckNoted judgement check.messages before after
 IsNoted held left old new before after judgement (Explore explore) = ExploreNoted explore.architecture (nat_lt 0 explore.sample) judgement held explore old new before after
@@ -142,6 +145,7 @@ IsFaulty held left old new (Run run) = ⊥
 IsFaulty held left old new (Explore explore) = ExploreCame explore.architecture (nat_lt 0 explore.sample) NotAllowed held left explore old new
 IsFaulty held left old new (Show show) = ShowCame show.explore.architecture NotAllowed held left show old new
 IsFaulty held left old new (Chart chart) = ⊥
+IsFaulty held left old new (Page replay) = ⊥
 IsFaulty held left old new (Fences fences) = ⊥
 IsFaulty held left old new (Check check) = IsUnclean check.messages held check old new
 
@@ -158,6 +162,7 @@ IsHalfPrinted held left old new (Run run) = IsRunCutOff held left run old new
 IsHalfPrinted held left old new (Explore explore) = ExploreHas explore.architecture (nat_lt 0 explore.sample) held explore (Begins old new)
 IsHalfPrinted held left old new (Show show) = ShowHas show.explore.architecture held show (Begins old new)
 IsHalfPrinted held left old new (Chart chart) = IsHalfCharted held chart.replay chart.line old new
+IsHalfPrinted held left old new (Page replay) = IsHalfPaged held replay old new
 IsHalfPrinted held left old new (Fences fences) = IsAuditCutOff held fences old new
 IsHalfPrinted held left old new (Check check) = IsCheckBroken check.messages held check old new
 

@@ -13,11 +13,12 @@ use Rattle.command_line.specs.Running.{AreMisused, ExploreHas, HasNamed, ShowHas
 use Rattle.command_settings.specs.Refusals.{IsForHelp}
 use Rattle.command_settings.specs.declared.wanted.Check.{Check as Judging}
 use Rattle.command_settings.specs.declared.wanted.Settings.{Settings}
-use Rattle.command_settings.specs.declared.wanted.Settings.TheVariants.{Chart, Check, Explain, Explore, Fences, Replay, Run, Show}
+use Rattle.command_settings.specs.declared.wanted.Settings.TheVariants.{Chart, Check, Explain, Explore, Fences, Page, Replay, Run, Show}
 use Rattle.command_settings.specs.declared.wanted.Show.{Show as Showing}
 use Rattle.fences_command.specs.Fencing.{IsFencesFault}
 use Rattle.script_commands.specs.Explaining.{LeavesOfStream}
 use Rattle.trace_commands.specs.Kinds.{IsTellingFault}
+use Rattle.trace_commands.specs.Pages.{IsPageFault, LeavesOfPage}
 use Rattle.explore_command.specs.Exploring.{ComesBeforeScripts, IsExploreFault, LeavesPart}
 use Rattle.run_command.specs.Running.{ComesBeforeJournal, IsRunFault}
 use Rattle.explore_command.specs.Showing.{IsShowFault}
@@ -40,6 +41,7 @@ IsFaultOfCommand held old new (Run run) = IsRunFault held run
 IsFaultOfCommand held old new (Explore explore) = IsExploreFault held explore
 IsFaultOfCommand held old new (Show show) = IsShowingFault show.explore.architecture held show
 IsFaultOfCommand held old new (Chart chart) = IsChartFault held chart.replay chart.line
+IsFaultOfCommand held old new (Page replay) = IsPageFault held replay old new
 IsFaultOfCommand held old new (Fences fences) = IsFencesFault held fences
 IsFaultOfCommand held old new (Check check) = IsJudgingFault check.messages held check
 
@@ -51,6 +53,7 @@ LeavesOf held left old new (Show show) fault = LeavesPart fault old new (ShowHas
 LeavesOf held left old new (Replay replay) fault = LeavesAtFault fault old new (IsHalfPrinted held left old new (Replay replay))
 LeavesOf held left old new (Run run) fault = LeavesAtFault fault old new (IsHalfPrinted held left old new (Run run))
 LeavesOf held left old new (Chart chart) fault = LeavesAtFault fault old new (IsHalfPrinted held left old new (Chart chart))
+LeavesOf held left old new (Page replay) fault = LeavesOfPage held replay old new fault
 LeavesOf held left old new (Fences fences) fault = LeavesAtFault fault old new (IsHalfPrinted held left old new (Fences fences))
 LeavesOf held left old new (Check check) fault = LeavesAtFault fault old new (IsHalfPrinted held left old new (Check check))
 

@@ -26,7 +26,7 @@ use std::io::Write;
 use std::sync::Wait;
 use std::thread::Threads;
 use trace_commands::check_command::{check_file, check_messages};
-use trace_commands::explain_files;
+use trace_commands::{explain_files, page_files};
 
 /// Carries out what the words ask for. What it answers is not allowed where an order or messages aren't
 /// legal, or an outcome isn't one that is allowed.
@@ -69,6 +69,10 @@ pub(crate) fn carry_out<
         }
         Settings::Chart(chart) => {
             chart_files(alloc, files, chart.replay, chart.line, out)?;
+            Ok(Judgement::Allowed)
+        }
+        Settings::Page(replay) => {
+            page_files(alloc, files, replay, out)?;
             Ok(Judgement::Allowed)
         }
         Settings::Run(run) => {

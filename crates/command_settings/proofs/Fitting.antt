@@ -11,7 +11,7 @@ use Rattle.clap.specs.Words.{is_simple, is_simple_and_free}
 use Rattle.clap.specs.Walk.{Row, Text, answers_to, finished, nothing_held, rows_after, settled, walk, walk_from}
 use Rattle.clap.specs.declared.error.kind.ErrorKind.TheVariants as kind
 use Rattle.command_settings.specs.Settings.{HasAllOf, IsComplete, arguments_of}
-use Rattle.command_settings.specs.Usage.{AreModelNames, IsUsage, ModelNames, Subcommand, app_for, chart, check, explain, explore, fences, replay, run, subcommands, usage}
+use Rattle.command_settings.specs.Usage.{AreModelNames, IsUsage, ModelNames, Subcommand, app_for, chart, check, explain, explore, fences, page, replay, run, subcommands, usage}
 use Rattle.command_settings.proofs.Built.{Each, IsBuilt, IsSound, either_true, same_bytes, whole}
 use Rattle.command_settings.proofs.Walked.{IsNoHelp, no_kinds, walk_is_none}
 
@@ -54,6 +54,16 @@ chart_ready : (names : ModelNames) → IsReady names chart
 chart_ready names = record {
   sound = ((refl, tt), ((refl, tt), ((refl, tt), ((refl, tt), ((refl, tt), tt)))));
   built = (1, refl, (1, refl, (1, refl, (1, refl, (2, refl, (3, refl))))));
+  named = refl;
+  alone = refl;
+  no_override = refl;
+  no_negation = refl;
+}
+
+page_ready : (names : ModelNames) → IsReady names page
+page_ready names = record {
+  sound = ((refl, tt), ((refl, tt), ((refl, tt), ((refl, tt), tt))));
+  built = (1, refl, (1, refl, (1, refl, (2, refl, (3, refl)))));
   named = refl;
   alone = refl;
   no_override = refl;
@@ -104,7 +114,7 @@ check_ready names = record {
 }
 
 ready : (names : ModelNames) → Each (IsReady names) subcommands
-ready names = (replay_ready names, (explain_ready names, (chart_ready names, (run_ready names, (explore_ready names, (fences_ready names, (check_ready names, tt)))))))
+ready names = (replay_ready names, (explain_ready names, (chart_ready names, (page_ready names, (run_ready names, (explore_ready names, (fences_ready names, (check_ready names, tt))))))))
 
 -- ---- the subcommand that the words enter
 

@@ -128,6 +128,7 @@ abbrev pub IsMeant : Text → List Row → Settings → Type 0
 IsMeant name rows (settings.Replay replay) = (name ≡ codes "replay") × IsReplayMeant rows replay
 IsMeant name rows (settings.Explain explain) = (name ≡ codes "explain") × IsExplainMeant rows explain
 IsMeant name rows (settings.Chart chart) = (name ≡ codes "chart") × IsChartMeant rows chart
+IsMeant name rows (settings.Page replay) = (name ≡ codes "page") × IsReplayMeant rows replay
 IsMeant name rows (settings.Run run) = (name ≡ codes "run") × IsRunMeant rows run
 IsMeant name rows (settings.Explore explore) = (name ≡ codes "explore") × IsExploreMeant rows explore
 IsMeant name rows (settings.Fences fences) = (name ≡ codes "fences") × IsFencesMeant rows fences
@@ -149,6 +150,7 @@ abbrev pub IsAsked : Text → List Row → Settings → Type 0
 IsAsked name rows (settings.Replay replay) = IsMeant name rows (settings.Replay replay)
 IsAsked name rows (settings.Explain explain) = IsMeant name rows (settings.Explain explain)
 IsAsked name rows (settings.Chart chart) = IsMeant name rows (settings.Chart chart)
+IsAsked name rows (settings.Page replay) = IsMeant name rows (settings.Page replay)
 IsAsked name rows (settings.Run run) = IsMeant name rows (settings.Run run)
 IsAsked name rows (settings.Explore explore) = IsMeant name rows (settings.Explore explore) × (shown_in rows ≡ [])
 IsAsked name rows (settings.Show show) = (name ≡ codes "explore") × IsShowMeant rows show

@@ -184,6 +184,9 @@ explain = record { name = codes "explain"; arguments = explain_arguments }
 abbrev pub chart : Subcommand
 chart = record { name = codes "chart"; arguments = chart_arguments }
 
+abbrev pub page : Subcommand
+page = record { name = codes "page"; arguments = replay_arguments }
+
 abbrev pub run : Subcommand
 run = record { name = codes "run"; arguments = run_arguments }
 
@@ -197,7 +200,7 @@ abbrev pub check : Subcommand
 check = record { name = codes "check"; arguments = check_arguments }
 
 abbrev pub subcommands : List Subcommand
-subcommands = replay ∷ explain ∷ chart ∷ run ∷ explore ∷ fences ∷ check ∷ []
+subcommands = replay ∷ explain ∷ chart ∷ page ∷ run ∷ explore ∷ fences ∷ check ∷ []
 
 abbrev pub app_for : ModelNames → Subcommand → App
 app_for names subcommand = with_arguments names (new_app subcommand.name) subcommand.arguments

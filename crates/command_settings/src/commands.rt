@@ -2,11 +2,11 @@
 
 ghost use Rattle.std.specs.Prelude.{◌≡◌, IfOk, codes, false, true};
 ghost use Rattle.clap.specs.Words.{App, Rule, app_of, new_app, rule_of, with_rule, with_subcommand};
-ghost use Rattle.command_settings.specs.Usage.{AreModelNames, ModelNames, IsUsage, app_for, chart, check, explain, explore, fences, file_rule, flag_rule, least_limit, least_window, machine_arguments, model_rule, most_limit, most_size, most_window, named_rule, number_rule, optional_rule, repeated_rule, replay, replay_arguments, required_rule, run, sample_arguments, search_arguments, window_arguments, with_arguments};
+ghost use Rattle.command_settings.specs.Usage.{AreModelNames, ModelNames, IsUsage, app_for, chart, check, explain, explore, fences, file_rule, flag_rule, least_limit, least_window, machine_arguments, model_rule, most_limit, most_size, most_window, named_rule, number_rule, optional_rule, page, repeated_rule, replay, replay_arguments, required_rule, run, sample_arguments, search_arguments, window_arguments, with_arguments};
 
 use crate::help::{
     ALLOW_HELP, CHART_HELP, CHECK_HELP, EXPLAIN_HELP, EXPLORE_HELP, FAIL_ON_HELP, FENCES_HELP,
-    LINE_HELP, PROGRAM_HELP, REPLAY_HELP, RUN_HELP, SCRIPTS_HELP, SHOW_HELP,
+    LINE_HELP, PAGE_HELP, PROGRAM_HELP, REPLAY_HELP, RUN_HELP, SCRIPTS_HELP, SHOW_HELP,
 };
 use clap::builder::ValueParser;
 use clap::{Arg, ArgAction, Command};
@@ -47,6 +47,7 @@ fn command_over<'a>(alloc: Global, models: &'a [&'a str]) -> Result<Command<'a>,
     let command = add_subcommand(Ok(command), replay_command(alloc, models));
     let command = add_subcommand(command, explain_command(alloc, models));
     let command = add_subcommand(command, chart_command(alloc, models));
+    let command = add_subcommand(command, page_command(alloc, models));
     let command = add_subcommand(command, run_command(alloc, models));
     let command = add_subcommand(command, explore_command(alloc, models));
     let command = add_subcommand(command, fences_command(alloc, models));
@@ -106,6 +107,14 @@ fn chart_command<'a>(alloc: Global, models: &'a [&'a str]) -> Result<Command<'a>
     let about = "Applies a script of events to a machine and draws what happened";
     let command = described(alloc, "chart", about, CHART_HELP);
     with_replay(alloc, models, add_arg(Ok(command), drawn_line(alloc)))
+}
+
+fn page_command<'a>(alloc: Global, models: &'a [&'a str]) -> Result<Command<'a>, AllocError>
+    ensures { IfOk result (λ made. app_of made ≡ app_for models.entry page) }
+{
+    let about = "Prints a page for a browser that shows a run, event by event";
+    let command = described(alloc, "page", about, PAGE_HELP);
+    with_replay(alloc, models, Ok(command))
 }
 
 fn run_command<'a>(alloc: Global, models: &'a [&'a str]) -> Result<Command<'a>, AllocError>

@@ -3,7 +3,8 @@
 pub(crate) const PROGRAM_HELP: &str =
     "A replay takes a program and a script of events, and prints the trace of what happened:
 each instruction, each memory operation and each message between caches and memory.
-An explain takes the same, and tells below each event what it did. A chart takes it too, and draws it.
+An explain takes the same, and tells below each event what it did. A chart takes it too, and draws it;
+a page shows it in a browser.
 A run takes a program alone: its harts run side by side, and what happened is kept as a script.
 An explore takes a program alone, and tells every end that the machine can bring it to.
 A check takes a trace and tells whether the memory model allows its order, or whether its messages are lawful.
@@ -95,6 +96,17 @@ sent to where they arrived. A script that makes more than 400 rows, or more than
 drawn: --line has fewer.
 
 Example: rvtl chart --raw examples/load.bin examples/load.script > load.svg";
+
+pub(crate) const PAGE_HELP: &str =
+    "The page is an HTML file on standard output that needs nothing from outside: open it in a browser. Of a script
+it draws the events, with the messages between caches and memory, and beside them what the machine holds
+after the event that is chosen, by a click or the arrow keys: registers, stores that wait, the bytes of each
+cache's lines, messages on their way, and what the manager of memory has noted; # and a number behind the
+file's name begin with that event. Of a trace, as of explore --architecture, it draws each hart's operations
+with the order in which they were performed, where loads read, and what orders them. Behind the page's last
+tag stands what explain --state prints, and where there is a fault nothing: the page says so.
+
+Example: rvtl page --raw examples/load.bin examples/load.script > load.html";
 
 pub(crate) const LINE_HELP: &str =
     "draw the messages and permissions of the line with this address alone (decimal, or hexadecimal behind 0x)";

@@ -129,6 +129,7 @@ fn settings_named<'a>(name: &str, given: &ArgMatches<'a>) -> Option<Settings<'a>
         "replay" => Some(Settings::Replay(replay_of(given)?)),
         "explain" => Some(Settings::Explain(explain_of(given)?)),
         "chart" => Some(Settings::Chart(chart_of(given)?)),
+        "page" => Some(Settings::Page(replay_of(given)?)),
         "run" => Some(Settings::Run(run_of(given)?)),
         "explore" => Some(Settings::Explore(explore_of(given)?)),
         "fences" => Some(Settings::Fences(fences_of(given)?)),

@@ -215,6 +215,8 @@ pub enum Settings<'a> {
     Run(Run<'a>),
     Explain(Explain<'a>),
     Chart(Chart<'a>),
+    /// Replay, and print a page that shows what happened, event by event.
+    Page(Replay<'a>),
     Explore(Explore<'a>),
     Show(Show<'a>),
     Fences(Fences<'a>),
@@ -233,6 +235,7 @@ impl Settings<'_> {
             | Settings::Run(_)
             | Settings::Explain(_)
             | Settings::Chart(_)
+            | Settings::Page(_)
             | Settings::Fences(_)
             | Settings::Check(_) => None,
         }

@@ -5,6 +5,7 @@ use Rattle.command_line.proofs.Meant.{beyond_fences, beyond_run, journal_alone, 
 use Rattle.command_line.proofs.Leaving.{all_left_of, as_told, chart_inside, chart_outside, check_inside, check_outside, explore_inside, explore_outside, left_of, show_inside, show_outside, stream_left}
 use Rattle.command_line.specs.Running.{IsOutOfRange, IsDone, IsNoted, IsWritten}
 use Rattle.command_line.specs.Telling.{ComesBeforeFiles}
+use Rattle.trace_commands.proofs.Paged.{page_never_misused}
 use Rattle.trace_commands.proofs.Told.{telling_never_misused}
 use Rattle.script_commands.proofs.ReplayTold.{replay_never_misused}
 use Rattle.command_line.proofs.carrying.carry_out.Goals as goal
@@ -44,6 +45,30 @@ returns-in_err-explain_files-in-Explain-clause-outside g c = handed_up _ c.from_
 
 pub returns-in_err-explain_files-in-Explain-clause-beyond : goal.returns-in_err-explain_files-in-Explain-clause-beyond
 returns-in_err-explain_files-in-Explain-clause-beyond g c = handed_up _ c.from_residual-in_err-explain_files-in-Explain.result _ c.from_residual-in_err-explain_files-in-Explain.ensures.1 (λ two. absurd (telling_never_misused _ _ _ _ _ _ c.in_err-explain_files-in-Explain.ensures.told two))
+
+pub returns-in_ok-page_files-in-Page-clause-came : goal.returns-in_ok-page_files-in-Page-clause-came
+returns-in_ok-page_files-in-Page-clause-came g c = subst (IsDone _ _ _ _) (sym c.in-Page.is) c.in_ok-page_files-in-Page.ensures.paged
+
+pub returns-in_ok-page_files-in-Page-clause-spared : goal.returns-in_ok-page_files-in-Page-clause-spared
+returns-in_ok-page_files-in-Page-clause-spared g c = unwritten _ _ _ c.in_ok-page_files-in-Page.ensures.spared
+
+pub returns-in_ok-page_files-in-Page-clause-inside : goal.returns-in_ok-page_files-in-Page-clause-inside
+returns-in_ok-page_files-in-Page-clause-inside g c = λ out. absurd (subst IsOutOfRange c.in-Page.is out)
+
+pub returns-in_err-page_files-in-Page-clause-spared : goal.returns-in_err-page_files-in-Page-clause-spared
+returns-in_err-page_files-in-Page-clause-spared g c = unwritten _ _ _ c.in_err-page_files-in-Page.ensures.spared
+
+pub returns-in_err-page_files-in-Page-clause-leaves : goal.returns-in_err-page_files-in-Page-clause-leaves
+returns-in_err-page_files-in-Page-clause-leaves g c = handed_up _ c.from_residual-in_err-page_files-in-Page.result _ c.from_residual-in_err-page_files-in-Page.ensures.1 (left_of _ _ _ _ _ _ _ c.in-Page.is c.in_err-page_files-in-Page.ensures.unfinished)
+
+pub returns-in_err-page_files-in-Page-clause-outside : goal.returns-in_err-page_files-in-Page-clause-outside
+returns-in_err-page_files-in-Page-clause-outside g c = handed_up _ c.from_residual-in_err-page_files-in-Page.result _ c.from_residual-in_err-page_files-in-Page.ensures.1 (λ out. absurd (subst IsOutOfRange c.in-Page.is out))
+
+pub returns-in_err-page_files-in-Page-clause-beyond : goal.returns-in_err-page_files-in-Page-clause-beyond
+returns-in_err-page_files-in-Page-clause-beyond g c = handed_up _ c.from_residual-in_err-page_files-in-Page.result _ c.from_residual-in_err-page_files-in-Page.ensures.1 (λ two. absurd (page_never_misused _ _ _ _ _ c.in_err-page_files-in-Page.ensures.told two))
+
+pub returns-in_err-page_files-in-Page-clause-told : goal.returns-in_err-page_files-in-Page-clause-told
+returns-in_err-page_files-in-Page-clause-told g c = handed_up _ c.from_residual-in_err-page_files-in-Page.result _ c.from_residual-in_err-page_files-in-Page.ensures.1 (told_of _ _ _ _ _ _ c.in-Page.is c.in_err-page_files-in-Page.ensures.told)
 
 pub returns-in_ok-chart_files-in-Chart-clause-came : goal.returns-in_ok-chart_files-in-Chart-clause-came
 returns-in_ok-chart_files-in-Chart-clause-came g c = subst (IsDone _ _ _ _) (sym c.in-Chart.is) c.in_ok-chart_files-in-Chart.ensures.charted
@@ -193,6 +218,12 @@ pub returns-in-Check-clause-untouched : goal.returns-in-Check-clause-untouched
 returns-in-Check-clause-untouched g c = all_stay _ _ _ c.checked.result c.checked.ensures.spared
 
 -- what stands on standard error
+pub returns-in_err-page_files-in-Page-clause-untouched : goal.returns-in_err-page_files-in-Page-clause-untouched
+returns-in_err-page_files-in-Page-clause-untouched g c = handed_up _ c.from_residual-in_err-page_files-in-Page.result _ c.from_residual-in_err-page_files-in-Page.ensures.1 (λ early. c.in_err-page_files-in-Page.ensures.spared)
+
+pub returns-in_ok-page_files-in-Page-clause-noted : goal.returns-in_ok-page_files-in-Page-clause-noted
+returns-in_ok-page_files-in-Page-clause-noted g c = subst (IsNoted _ _ _ _ _ _ _) (sym c.in-Page.is) refl
+
 pub returns-in_ok-replay_files-in-Replay-clause-noted : goal.returns-in_ok-replay_files-in-Replay-clause-noted
 returns-in_ok-replay_files-in-Replay-clause-noted g c = subst (IsNoted _ _ _ _ _ _ _) (sym c.in-Replay.is) c.in_ok-replay_files-in-Replay.ensures.ends
 

@@ -13,7 +13,8 @@ returns c =
     let replay_is = c.add_subcommand-command.ensures bare_usage _ bare_is c.replay_command.ensures refl in
     let explain_is = c.add_subcommand-command-2.ensures _ _ replay_is c.explain_command.ensures refl in
     let chart_is = c.add_subcommand-command-3.ensures _ _ explain_is c.chart_command.ensures refl in
-    let run_is = c.add_subcommand-command-4.ensures _ _ chart_is c.run_command.ensures refl in
-    let explore_is = c.add_subcommand-command-5.ensures _ _ run_is c.explore_command.ensures refl in
-    let fences_is = c.add_subcommand-command-6.ensures _ _ explore_is c.fences_command.ensures refl in
+    let page_is = c.add_subcommand-command-4.ensures _ _ chart_is c.page_command.ensures refl in
+    let run_is = c.add_subcommand-command-5.ensures _ _ page_is c.run_command.ensures refl in
+    let explore_is = c.add_subcommand-command-6.ensures _ _ run_is c.explore_command.ensures refl in
+    let fences_is = c.add_subcommand-command-7.ensures _ _ explore_is c.fences_command.ensures refl in
     IfOk-weaker c.add_subcommand.result _ _ (λ made is. (c.args.models, c.requires, is)) (c.add_subcommand.ensures _ _ fences_is c.check_command.ensures refl)

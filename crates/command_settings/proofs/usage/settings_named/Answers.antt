@@ -13,9 +13,9 @@ no_match a b other = go (bytes_eq b a) refl
     go false same = refl
 
 -- no other name is one of a subcommand
-unknown : (name : Text) (rows : List Row) → (name ≡ codes "replay" → ⊥) → (name ≡ codes "explain" → ⊥) → (name ≡ codes "chart" → ⊥) → (name ≡ codes "run" → ⊥)
+unknown : (name : Text) (rows : List Row) → (name ≡ codes "replay" → ⊥) → (name ≡ codes "explain" → ⊥) → (name ≡ codes "chart" → ⊥) → (name ≡ codes "page" → ⊥) → (name ≡ codes "run" → ⊥)
     → (name ≡ codes "explore" → ⊥) → (name ≡ codes "fences" → ⊥) → (name ≡ codes "check" → ⊥) → IsComplete name rows → ⊥
-unknown name rows no_replay no_explain no_chart no_run no_explore no_fences no_check whole = rw (no_match name (codes "replay") no_replay, no_match name (codes "explain") no_explain, no_match name (codes "chart") no_chart, no_match name (codes "run") no_run, no_match name (codes "explore") no_explore, no_match name (codes "fences") no_fences, no_match name (codes "check") no_check) at whole
+unknown name rows no_replay no_explain no_chart no_page no_run no_explore no_fences no_check whole = rw (no_match name (codes "replay") no_replay, no_match name (codes "explain") no_explain, no_match name (codes "chart") no_chart, no_match name (codes "page") no_page, no_match name (codes "run") no_run, no_match name (codes "explore") no_explore, no_match name (codes "fences") no_fences, no_match name (codes "check") no_check) at whole
 
 complete : (name other : Text) (rows : List Row) → name ≡ other → IsComplete name rows → IsComplete other rows
 complete name other rows is whole = subst (λ n. IsComplete n rows) is whole
@@ -43,6 +43,14 @@ returns-in_ok-chart_of-in-chart-clause-meant c = λ whole.
 
 pub returns-in_err-chart_of-in-chart-clause-missing : goal.returns-in_err-chart_of-in-chart-clause-missing
 returns-in_err-chart_of-in-chart-clause-missing c = λ none whole. c.in_err-chart_of-in-chart.ensures.missing refl (complete c.args.name.now (codes "chart") (rows_of (found_of c.args.given.now)) (search rules) whole)
+
+pub returns-in_ok-replay_of-in-page-clause-meant : goal.returns-in_ok-replay_of-in-page-clause-meant
+returns-in_ok-replay_of-in-page-clause-meant c = λ whole.
+    let is : c.args.name.now ≡ codes "page" = search rules in
+    (is, c.in_ok-replay_of-in-page.ensures.meant (complete c.args.name.now (codes "page") (rows_of (found_of c.args.given.now)) is whole))
+
+pub returns-in_err-replay_of-in-page-clause-missing : goal.returns-in_err-replay_of-in-page-clause-missing
+returns-in_err-replay_of-in-page-clause-missing c = λ none whole. c.in_err-replay_of-in-page.ensures.missing refl (complete c.args.name.now (codes "page") (rows_of (found_of c.args.given.now)) (search rules) whole)
 
 pub returns-in_ok-run_of-in-run-clause-meant : goal.returns-in_ok-run_of-in-run-clause-meant
 returns-in_ok-run_of-in-run-clause-meant c = λ whole.
@@ -78,4 +86,4 @@ returns-in_err-check_of-in-check-clause-missing c = λ none whole. c.in_err-chec
 
 pub returns-in_default-clause-missing : goal.returns-in_default-clause-missing
 returns-in_default-clause-missing c = λ none whole.
-    unknown c.args.name.now (rows_of (found_of c.args.given.now)) (λ at. search rules) (λ at. search rules) (λ at. search rules) (λ at. search rules) (λ at. search rules) (λ at. search rules) (λ at. search rules) whole
+    unknown c.args.name.now (rows_of (found_of c.args.given.now)) (λ at. search rules) (λ at. search rules) (λ at. search rules) (λ at. search rules) (λ at. search rules) (λ at. search rules) (λ at. search rules) (λ at. search rules) whole
