@@ -170,7 +170,9 @@ function pass(now, run, w) {
     if (way === 's') {
       if (name.startsWith('Release')) now.gives[h].set(line, change);
       const old = now.lines[h].get(line);
-      if (left === 'N') { keep(now, h, line); if (now.harts[h].reserved !== null && Math.floor(now.harts[h].reserved / run.size) * run.size === line) now.harts[h].reserved = null; }
+      // a reservation of a word of the line lasts while the copy is Trunk
+      if (left !== 'T' && now.harts[h].reserved !== null && Math.floor(now.harts[h].reserved / run.size) * run.size === line) now.harts[h].reserved = null;
+      if (left === 'N') keep(now, h, line);
       else if (old) keep(now, h, line, {perm, dirty: left === 'T' && old.dirty, data: old.data});
     } else {
       if (perm === 'Nothing') now.notes[h].delete(line); else now.notes[h].set(line, perm);
