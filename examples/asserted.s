@@ -4,8 +4,8 @@
 # - asserted_unreleased, with ACQUIRED: the flag may leave the store buffer before the message, so it may fail.
 # - asserted_unacquired, with RELEASED: the machine performs loads in order, so it doesn't fail here. RVWMO lets the
 #   message be read before the flag, so there it may.
-# - asserted_alone, with RELEASED, ACQUIRED and ALONE, and asserted_alone_unacquired, without ACQUIRED: the same, but hart 0
-#   doesn't wait. So where the assertion fails both harts have ended, and an outcome shows it.
+# - asserted_alone, with RELEASED, ACQUIRED and ALONE, and asserted_alone_unacquired, without ACQUIRED: the same, but
+#   hart 0 doesn't wait. So where the assertion fails both harts have ended, and an outcome shows it.
 
         .include "rvtl.inc"
 

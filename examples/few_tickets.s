@@ -1,7 +1,7 @@
 # A ticket lock whose tickets are counted by few bits. Inside each hart asserts that it is alone.
 # - few_tickets, with WIDE: two bits, enough for four harts. The assertion never fails.
-# - few_tickets_narrow: one bit. Two harts never have the same ticket; of three the first and the third have, and both may
-#   be inside.
+# - few_tickets_narrow: one bit. Two harts never have the same ticket; of three the first and the third have, and both
+#   may be inside.
 
         .include "rvtl.inc"
 

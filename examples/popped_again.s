@@ -1,10 +1,10 @@
-# A stack of two nodes. Hart 0 pops twice; hart 1 pops twice and pushes the first node that it got back. Who pops a node
-# asserts that nobody has it.
-# - popped_again, with RESERVED: the first load of a pop is the LR, so that its SC fails where the other hart has changed the
-#   stack. The assertion never fails.
-# - popped_again_compared: a pop loads the first node, loads which one follows it, and then exchanges the two where the first
-#   one is still the same. It may have gone and come back meanwhile (ABA), while hart 1 keeps the one that followed: hart 0
-#   then pops that one too.
+# A stack of two nodes. Hart 0 pops twice; hart 1 pops twice, and pushes back the first node that it got. Who pops a
+# node asserts that nobody has it.
+# - popped_again, with RESERVED: the first load of a pop is the LR, so that its SC fails where the other hart has
+#   changed the stack. The assertion never fails.
+# - popped_again_compared: a pop loads the first node, loads which one follows it, and then exchanges the two where the
+#   first one is still the same. It may have gone and come back meanwhile (ABA), while hart 1 keeps the one that
+#   followed: hart 0 then pops that one too.
 
         .include "rvtl.inc"
 
