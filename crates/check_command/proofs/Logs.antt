@@ -7,6 +7,7 @@ use Rattle.command_files.specs.Contents.{Contents, HoldsBytes}
 use Rattle.elf_loader.specs.Image.{Initial}
 use Rattle.log_text.specs.Laws.{IsVerdict}
 use Rattle.log_text.specs.MessageVerdict.{MessageVerdict}
+use Rattle.log_text.specs.Profile.{Profile}
 use Rattle.trace_recorder.specs.History.{History}
 use Rattle.trace_recorder.specs.declared.logged.Logged.{Logged}
 use Rattle.trace_text.specs.TraceLimits.{IsTrace}
@@ -25,5 +26,5 @@ log_held held name bytes read t same is found = record {
 }
 
 -- what is said of the memory and the log that are handed on is said of the trace
-pub verdict_on : (ended : Bool) (t : History) (memory : Option Initial) (log : List Logged) (r : Result MessageVerdict AllocError) → memory ≡ memory_told t.image → log ≡ t.log → IfOk r (IsVerdict ended memory log) → IfOk r (IsVerdict ended (memory_told t.image) t.log)
-verdict_on ended t memory log r of_memory of_log told = subst (λ (l : List Logged). IfOk r (IsVerdict ended (memory_told t.image) l)) of_log (subst (λ (m : Option Initial). IfOk r (IsVerdict ended m log)) of_memory told)
+pub verdict_on : (ended : Bool) (profile : Profile) (t : History) (memory : Option Initial) (log : List Logged) (r : Result MessageVerdict AllocError) → memory ≡ memory_told t.image → log ≡ t.log → IfOk r (IsVerdict ended profile memory log) → IfOk r (IsVerdict ended profile (memory_told t.image) t.log)
+verdict_on ended profile t memory log r of_memory of_log told = subst (λ (l : List Logged). IfOk r (IsVerdict ended profile (memory_told t.image) l)) of_log (subst (λ (m : Option Initial). IfOk r (IsVerdict ended profile m log)) of_memory told)

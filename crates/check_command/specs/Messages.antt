@@ -13,6 +13,7 @@ use Rattle.log_text.specs.Names.{without_names}
 use Rattle.log_text.specs.Verdicts.{verdict_text}
 use Rattle.log_text.specs.Laws.{IsVerdict}
 use Rattle.log_text.specs.MessageVerdict.{MessageVerdict}
+use Rattle.log_text.specs.Profile.{Profile}
 use Rattle.text_fields.specs.Writing.{Begins}
 use Rattle.trace_recorder.specs.History.{History}
 use Rattle.trace_text.specs.TraceLimits.{IsTrace}
@@ -32,19 +33,19 @@ pub record HoldsLog (held : Contents) (name : List ℕ) (trace : History) : Type
 abbrev pub memory_told : Initial → Option Initial
 memory_told image = if list_any (λ byte. not (byte == 0)) image.bytes then Some image else None
 
--- what was appended is the verdict on the messages of the trace in the file, which have ended or may go on
-pub record IsLogJudged (held : Contents) (name : List ℕ) (ended : Bool) (verdict : MessageVerdict) (old new : Option (List ℕ)) : Type 0 where
+-- what was appended is the verdict on the messages of the trace in the file by the profile's rules, which have ended or may go on
+pub record IsLogJudged (held : Contents) (name : List ℕ) (profile : Profile) (ended : Bool) (verdict : MessageVerdict) (old new : Option (List ℕ)) : Type 0 where
   pub trace : History
   pub file : HoldsLog held name trace
-  pub judged : IsVerdict ended (memory_told trace.image) trace.log verdict
+  pub judged : IsVerdict ended profile (memory_told trace.image) trace.log verdict
   pub printed : Appends old new (verdict_text verdict)
 
 -- the output took no more than a beginning of the verdict on the log in the file
-pub record IsLogCutOff (held : Contents) (name : List ℕ) (ended : Bool) (old new : Option (List ℕ)) : Type 0 where
+pub record IsLogCutOff (held : Contents) (name : List ℕ) (profile : Profile) (ended : Bool) (old new : Option (List ℕ)) : Type 0 where
   pub trace : History
   pub verdict : MessageVerdict
   pub file : HoldsLog held name trace
-  pub judged : IsVerdict ended (memory_told trace.image) trace.log verdict
+  pub judged : IsVerdict ended profile (memory_told trace.image) trace.log verdict
   pub begun : Begins old new (verdict_text verdict)
 
 -- the file, without names and with the lines that may be left out, begins with no trace's text, or already its first line is longer than that of any text

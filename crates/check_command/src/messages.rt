@@ -15,7 +15,9 @@ ghost use Rattle.trace_text.specs.Traces as traces;
 use crate::reading::whole_trace;
 use command_files::{Escaped, Fault, Files, remark, text_in};
 use elf_loader::Image;
-use log_text::message_judge::{MessageBreach, MessageVerdict, judge_ended, judge_messages};
+use log_text::message_judge::{
+    MessageBreach, MessageVerdict, Profile, judge_ended, judge_messages,
+};
 use log_text::{
     Contradiction, Objection, Place, Unanswered, end_text, misnamed_line, put_verdict,
     without_names,
@@ -26,7 +28,7 @@ use std::io::{self, Write};
 use trace_recorder::{Logged, Trace};
 
 /// Reads a trace, or one that ends behind its messages, whose messages may have names, judges its log by the rules of
-/// the lawful log and of the coherent log, and prints the verdict on `out`. Memory begins as the trace's I lines say;
+/// the lawful log, as the profile asks them, and of the coherent log, and prints the verdict on `out`. Memory begins as the trace's I lines say;
 /// where there is none with bytes that aren't known. Where the log has ended, each question has to have its answer too;
 /// where it may go on, a remark tells of those that have none. Where the log isn't lawful, the line and the name of the
 /// message that breaks a rule, and what stood against it, go to `err`.
@@ -34,13 +36,14 @@ pub fn check_messages<'a, F: Files, O: Write, E: Write>(
     alloc: Global,
     files: &mut F,
     file: &'a str,
+    profile: Profile,
     ended: bool,
     out: &mut O,
     err: &mut E,
 ) -> Result<MessageVerdict, Fault<'a>>
-    ensures judged { IfOk result (λ verdict. IsLogJudged (F.held files.old) file.entry.now ended verdict (O.contents out.old) (O.contents out.new)) }
+    ensures judged { IfOk result (λ verdict. IsLogJudged (F.held files.old) file.entry.now profile ended verdict (O.contents out.old) (O.contents out.new)) }
     ensures unfinished { IfErr result (λ fault. LeavesAtFault fault (O.contents out.old) (O.contents out.new)
-        (IsLogCutOff (F.held files.old) file.entry.now ended (O.contents out.old) (O.contents out.new))) }
+        (IsLogCutOff (F.held files.old) file.entry.now profile ended (O.contents out.old) (O.contents out.new))) }
     ensures told { IfErr result (IsLogFault (F.held files.old) file.entry) }
     ensures spared { F.held files.new ≡ F.held files.old }
     ensures quiet { IfOk result (λ verdict. verdict ≡ MessageVerdict.Lawful → E.contents err.new ≡ E.contents err.old) }
@@ -51,7 +54,7 @@ pub fn check_messages<'a, F: Files, O: Write, E: Write>(
     };
     let trace = whole_log(alloc, files, file, text.as_slice(), bytes.as_slice())?;
     drop(text); // judging needs the room
-    let Ok(verdict) = judged(alloc, &trace, ended) else {
+    let Ok(verdict) = judged(alloc, &trace, profile, ended) else {
         return Err(Fault::OutOfMemory);
     };
     remark_judged(alloc, files, bytes.as_slice(), trace.log(), verdict);
@@ -59,7 +62,7 @@ pub fn check_messages<'a, F: Files, O: Write, E: Write>(
         return Err(Fault::writing(error));
     }
     // Standard error has no other place to tell that it takes no more.
-    let _ = object(file, bytes.as_slice(), &trace, verdict, err);
+    let _ = object(file, bytes.as_slice(), &trace, profile, verdict, err);
     Ok(verdict)
 }
 
@@ -108,15 +111,20 @@ fn remark_misnamed<F: Files>(alloc: Global, files: &mut F, bytes: &[u8])
     }
 }
 
-/// The verdict on a trace's log, which has ended or may go on.
-fn judged(alloc: Global, trace: &Trace, ended: bool) -> Result<MessageVerdict, AllocError>
-    ensures { IfOk result (IsVerdict ended (memory_told trace.now.history.image) trace.now.history.log) }
+/// The verdict on a trace's log by the profile's rules, which has ended or may go on.
+fn judged(
+    alloc: Global,
+    trace: &Trace,
+    profile: Profile,
+    ended: bool,
+) -> Result<MessageVerdict, AllocError>
+    ensures { IfOk result (IsVerdict ended profile (memory_told trace.now.history.image) trace.now.history.log) }
 {
     let memory = memory_at_start(trace);
     if ended {
-        judge_ended(alloc, memory, trace.log())
+        judge_ended(alloc, profile, memory, trace.log())
     } else {
-        judge_messages(alloc, memory, trace.log())
+        judge_messages(alloc, profile, memory, trace.log())
     }
 }
 
@@ -207,6 +215,7 @@ fn object<E: Write>(
     file: &str,
     bytes: &[u8],
     trace: &Trace,
+    profile: Profile,
     verdict: MessageVerdict,
     err: &mut E,
 ) -> io::Result<()>
@@ -215,7 +224,7 @@ fn object<E: Write>(
     match verdict {
         MessageVerdict::Lawful => Ok(()),
         MessageVerdict::Unlawful { breach, index } => {
-            put_breach(file, bytes, trace, breach, index, err)
+            put_breach(file, bytes, trace, profile, breach, index, err)
         }
     }
 }
@@ -225,6 +234,7 @@ fn put_breach<E: Write>(
     file: &str,
     bytes: &[u8],
     trace: &Trace,
+    profile: Profile,
     breach: MessageBreach,
     index: usize,
     err: &mut E,
@@ -236,7 +246,7 @@ fn put_breach<E: Write>(
     match breach {
         MessageBreach::Unlawful(rule) => {
             let harts = trace.harts() as u8;
-            match Objection::to(trace.log(), rule, index, harts) {
+            match Objection::to(trace.log(), profile, rule, index, harts) {
                 Some(objection) => writeln!(err, "rvtl: {name}: {place}: {objection}"),
                 None => Ok(()),
             }

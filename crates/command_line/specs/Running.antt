@@ -21,7 +21,7 @@ use Rattle.trace_commands.specs.Checking.{IsVerdictTold, IsVerdictCutOff}
 use Rattle.trace_commands.specs.Messages.{IsLogCutOff, IsLogJudged}
 use Rattle.run_command.specs.Running.{IsRun, IsRunCutOff, IsRunEndTold}
 use Rattle.command_settings.specs.Refusals.{IsFitting, IsForHelp}
-use Rattle.command_settings.specs.Settings.{AreConflicting, IsNamed}
+use Rattle.command_settings.specs.Settings.{AreConflicting, IsNamed, asks_tilelink}
 use Rattle.command_files.specs.Sizes.{IsOutside}
 use Rattle.command_settings.specs.declared.wanted.Check.{Check as Judging}
 use Rattle.command_settings.specs.declared.wanted.Explore.{Explore as Seeking}
@@ -30,6 +30,8 @@ use Rattle.command_settings.specs.declared.wanted.Settings.TheVariants.{Chart, C
 use Rattle.command_settings.specs.declared.wanted.Show.{Show as Showing}
 use Rattle.command_files.specs.Strictness.{Strictness}
 use Rattle.command_files.specs.TheVariants.{Lenient, Strict}
+use Rattle.message_judge.specs.Profile.{Profile}
+use Rattle.message_judge.specs.TheVariants.{Machine, TileLink}
 use Rattle.message_judge.specs.declared.verdict.MessageBreach.{MessageBreach}
 use Rattle.message_judge.specs.declared.verdict.MessageVerdict.TheVariants.{Lawful, Unlawful}
 use Rattle.rvwmo_order.specs.declared.verdict.Code.{Code}
@@ -45,21 +47,25 @@ abbrev pub strictness_of : Bool → Strictness
 strictness_of false = Lenient
 strictness_of true = Strict
 
+abbrev pub profile_of : (asks_tilelink : Bool) → Profile
+profile_of false = Machine
+profile_of true = TileLink
+
 -- what a check judges is legal: the messages of the trace, or its order
 abbrev pub IsClean : (of_messages : Bool) → Contents → Judging → Option (List ℕ) → Option (List ℕ) → Type 0
-IsClean true held check old new = IsLogJudged held check.trace.now check.ended Lawful old new
+IsClean true held check old new = IsLogJudged held check.trace.now (profile_of (asks_tilelink check.profile)) check.ended Lawful old new
 IsClean false held check old new = IsVerdictTold held check.trace.now check.model Legal old new
 
 -- it is not, and what shows it was printed
 abbrev pub IsUnclean : (of_messages : Bool) → Contents → Judging → Option (List ℕ) → Option (List ℕ) → Type 0
 IsUnclean true held check old new =
-    (breach : MessageBreach) × (index : ℕ) × IsLogJudged held check.trace.now check.ended (Unlawful breach index) old new
+    (breach : MessageBreach) × (index : ℕ) × IsLogJudged held check.trace.now (profile_of (asks_tilelink check.profile)) check.ended (Unlawful breach index) old new
 IsUnclean false held check old new =
     (code : Code) × (a : OpId) × (b : OpId) × IsVerdictTold held check.trace.now check.model (Fault code a b) old new
 
 -- no more than a beginning of the verdict went out
 abbrev pub IsCheckBroken : (of_messages : Bool) → Contents → Judging → Option (List ℕ) → Option (List ℕ) → Type 0
-IsCheckBroken true held check old new = IsLogCutOff held check.trace.now check.ended old new
+IsCheckBroken true held check old new = IsLogCutOff held check.trace.now (profile_of (asks_tilelink check.profile)) check.ended old new
 IsCheckBroken false held check old new = IsVerdictCutOff held check.trace.now check.model old new
 
 abbrev pub CheckCame : Judgement → (of_messages : Bool) → Contents → Judging → Option (List ℕ) → Option (List ℕ) → Type 0

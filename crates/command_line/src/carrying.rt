@@ -5,8 +5,9 @@ ghost use Rattle.clap.specs.Words.{Text};
 ghost use Rattle.command_files.specs.Faults.{LeavesAtFault, Name};
 ghost use Rattle.command_files.specs.Sizes.{IsOutside};
 ghost use Rattle.command_files.specs.Status.{status_of};
+ghost use Rattle.command_settings.specs.Settings.{asks_tilelink};
 ghost use Rattle.command_line.specs.Telling.{ComesBeforeFiles, IsFaultOfCommand, IsJudgingFault, IsShowingFault, LeavesOf};
-ghost use Rattle.command_line.specs.Running.{Came, CheckCame, CheckNoted, ExploreCame, ExploreHas, ExploreNoted, MeetsSomeState, IsOutOfRange, IsCheckBroken, IsExploreFile, IsNoted, IsWritten, ShowCame, ShowHas, ShowNoted, ShowsElsewhere, strictness_of};
+ghost use Rattle.command_line.specs.Running.{Came, CheckCame, CheckNoted, ExploreCame, ExploreHas, ExploreNoted, MeetsSomeState, IsOutOfRange, IsCheckBroken, IsExploreFile, IsNoted, IsWritten, ShowCame, ShowHas, ShowNoted, ShowsElsewhere, profile_of, strictness_of};
 ghost use Rattle.explore_command.specs.Exploring.{ComesBeforeScripts, IsExploreFault, LeavesPart};
 ghost use Rattle.explore_command.specs.Keeping.{SparesOthers};
 ghost use Rattle.explore_command.specs.Showing.{IsFirstOf};
@@ -16,7 +17,7 @@ use command_files::{Fault, Files, Unshown};
 use command_settings::{Check, Explore, Settings, Show};
 use explore_command::{Judgement, architecture_files, explore_files, sample_files, show_files};
 use fences_command::fences_files;
-use message_judge::MessageVerdict;
+use message_judge::{MessageVerdict, Profile};
 use progress_line::Progress;
 use run_command::run_files;
 use rvwmo_order::Verdict;
@@ -177,7 +178,15 @@ fn checked<'a, F: Files, O: Write, E: Write>(
     ensures spared { F.held files.new ≡ F.held files.old }
 {
     if wanted.messages {
-        return match check_messages(alloc, files, wanted.trace, wanted.ended, out, err)? {
+        return match check_messages(
+            alloc,
+            files,
+            wanted.trace,
+            profile_of(&wanted),
+            wanted.ended,
+            out,
+            err,
+        )? {
             MessageVerdict::Lawful => Ok(Judgement::Allowed),
             MessageVerdict::Unlawful {
                 breach: _,
@@ -188,6 +197,17 @@ fn checked<'a, F: Files, O: Write, E: Write>(
     match check_file(alloc, files, wanted.trace, wanted.model, out)? {
         Verdict::Legal => Ok(Judgement::Allowed),
         Verdict::Fault(_, _, _) => Ok(Judgement::NotAllowed),
+    }
+}
+
+/// Whose rules messages are judged by.
+fn profile_of(check: &Check<'_>) -> Profile
+    ensures { result ≡ profile_of (asks_tilelink check.now.profile) }
+{
+    if check.asks_tilelink() {
+        Profile::TileLink
+    } else {
+        Profile::Machine
     }
 }
 

@@ -105,8 +105,8 @@ fences_ready names = record {
 
 check_ready : (names : ModelNames) → IsReady names check
 check_ready names = record {
-  sound = ((refl, tt), ((refl, tt), ((refl, tt), ((refl, tt), tt))));
-  built = (1, refl, (1, refl, (1, refl, (1, refl, (2, refl)))));
+  sound = ((refl, tt), ((refl, tt), ((refl, tt), ((refl, tt), ((refl, tt), tt)))));
+  built = (1, refl, (1, refl, (1, refl, (1, refl, (1, refl, (2, refl))))));
   named = refl;
   alone = refl;
   no_override = refl;

@@ -120,6 +120,7 @@ pub record IsFencesMeant (rows : List Row) (fences : Fences) : Type 0 where
 pub record IsCheckMeant (rows : List Row) (check : Check) : Type 0 where
   pub messages : IsFlag (codes "messages") rows check.messages
   pub ended : IsFlag (codes "ended") rows check.ended
+  pub profile : IsOptional (codes "profile") rows check.profile
   pub model : IsModel rows check.model
   pub trace : IsText (codes "TRACE") rows check.trace.now
 
@@ -194,9 +195,23 @@ IsUnknown explore = IsSomeAnd explore.fail_on (λ list. are_conditions list.now 
 abbrev pub HasConflict : Explore → Type 0
 HasConflict explore = IsTwofold explore ⊎ (IsUnknown explore ⊎ IsBlind explore)
 
+-- whose rules messages are judged by: this machine's, or TileLink's
+abbrev pub is_profile : Text → Bool
+is_profile name = bytes_eq name (codes "machine") || bytes_eq name (codes "tilelink")
+
+-- TileLink's were asked for
+abbrev pub asks_tilelink : Option (Bor Text) → Bool
+asks_tilelink None = false
+asks_tilelink (Some name) = bytes_eq name.now (codes "tilelink")
+
+-- rules were asked for that there aren't
+abbrev pub HasNoRules : Check → Type 0
+HasNoRules check = IsSomeAnd check.profile (λ name. is_profile name.now ≡ false)
+
 abbrev pub AreConflicting : Settings → Type 0
 AreConflicting (settings.Explore explore) = HasConflict explore
 AreConflicting (settings.Show show) = HasConflict show.explore
+AreConflicting (settings.Check check) = HasNoRules check
 AreConflicting _ = ⊥
 
 -- the settings are what the words, the first of which is the program's name, say by the usage

@@ -165,9 +165,9 @@ fences_arguments =
     ∷ file (codes "IMAGE")
     ∷ []
 
--- `[--messages] [--ended] [--model NAME] TRACE`
+-- `[--messages] [--ended] [--profile NAME] [--model NAME] TRACE`
 abbrev pub check_arguments : List Argument
-check_arguments = flag (codes "messages") ∷ flag (codes "ended") ∷ model ∷ file (codes "TRACE") ∷ []
+check_arguments = flag (codes "messages") ∷ flag (codes "ended") ∷ optional (codes "profile") ∷ model ∷ file (codes "TRACE") ∷ []
 
 -- ---- the subcommands
 

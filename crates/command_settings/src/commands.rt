@@ -162,6 +162,7 @@ fn check_command<'a>(alloc: Global, models: &'a [&'a str]) -> Result<Command<'a>
     let command = described(alloc, "check", about, CHECK_HELP);
     let command = add_arg(Ok(command), messages(alloc));
     let command = add_arg(command, ended(alloc));
+    let command = add_arg(command, profile(alloc));
     let command = add_arg(command, judged_model(alloc, models));
     add_arg(command, trace(alloc))
 }
@@ -451,6 +452,18 @@ fn ended<'a>(alloc: Global) -> Arg<'a>
         alloc,
         "ended",
         "with --messages, also ask that each question has its answer by the end",
+    )
+}
+
+fn profile<'a>(alloc: Global) -> Arg<'a>
+    ensures rule { rule_of result ≡ optional_rule (codes "profile") }
+    ensures local { result.global ≡ false }
+{
+    optional(
+        alloc,
+        "profile",
+        "NAME",
+        "with --messages, whose rules they have to keep: machine (all that rvtl's machine keeps, the default) or tilelink (not those by which that machine asks more than TileLink)",
     )
 }
 

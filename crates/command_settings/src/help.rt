@@ -199,6 +199,7 @@ the first has to be performed before the second:
 With --messages the trace may end behind its M lines, and need not come from rvtl; --model says nothing then.
 It prints lawful, or with status 3 unlawful, a rule and the number of the message, from 0, that breaks it.
 Where a question has no answer by the end, a note tells; with --ended the first such question is unlawful.
+With --profile tilelink a Grant may have data where the copy is still held, and may answer NtoB with toT.
 A message is M s CHANNEL HART .. where it is sent, M t CHANNEL HART .. where it is taken, with behind it
   on A  AcquireBlock LINE NtoB, NtoT or BtoT
   on B  ProbeBlock LINE toT, toB or toN

@@ -20,6 +20,9 @@ use std::convert::AsStr;
 /// How an exploration is asked for.
 const EXPLORE_USAGE: &str = "rvtl explore [OPTIONS] <IMAGE>";
 
+/// How a check is asked for.
+const CHECK_USAGE: &str = "rvtl check [OPTIONS] <TRACE>";
+
 /// What the words ask for, of which the first is the program's name.
 pub fn settings<'a, S: AsStr>(alloc: Global, words: &'a [S]) -> Result<Settings<'a>, SettingsError>
     ensures named { IfOk result (IsNamed (map S.text words.entry.now)) }
@@ -62,18 +65,27 @@ fn without_subcommand(command: &mut Command<'_>) -> SettingsError {
     }
 }
 
-/// The settings, unless they don't go together: only those of an exploration may not.
+/// The settings, unless they don't go together: only those of an exploration and of a check may not.
 fn agreeing<'a>(alloc: Global, settings: Settings<'a>) -> Result<Settings<'a>, SettingsError>
     ensures same { IfOk result (λ agreed. agreed ≡ settings.entry) }
     ensures agreeing { IfOk result (λ agreed. AreConflicting agreed → ⊥) }
     ensures told { IfErr result (TellsConflict settings.entry) }
 {
     if let Some(conflict) = settings.conflict() {
-        let mut explore = Command::new(alloc, "explore").override_usage(EXPLORE_USAGE);
-        let error = explore.error(ErrorKind::ArgumentConflict, conflict)?;
+        let (name, usage) = usage_of(&settings);
+        let mut command = Command::new(alloc, name).override_usage(usage);
+        let error = command.error(ErrorKind::ArgumentConflict, conflict)?;
         return Err(SettingsError::Usage(error));
     }
     Ok(settings)
+}
+
+/// The name of the subcommand whose settings don't go together, and how it is asked for.
+fn usage_of(settings: &Settings<'_>) -> (&'static str, &'static str) {
+    match settings {
+        Settings::Check(_) => ("check", CHECK_USAGE),
+        _ => ("explore", EXPLORE_USAGE),
+    }
 }
 
 /// The settings with the words of memory that are to be shown, if any are.
@@ -249,6 +261,7 @@ fn check_of<'a>(matches: &ArgMatches<'a>) -> Option<Check<'a>>
     Some(Check {
         messages: matches.get_flag("messages"),
         ended: matches.get_flag("ended"),
+        profile: matches.get_str("profile"),
         model,
         trace,
     })

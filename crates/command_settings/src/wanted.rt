@@ -1,7 +1,7 @@
 //! What the words of the command line ask for.
 
 ghost use Rattle.std.specs.Prelude.{◌↔◌, ◌≡◌, IsSome, IsTrue};
-ghost use Rattle.command_settings.specs.Settings.{AreConflicting, HasConflict, IsBlind, IsTwofold, IsUnknown, are_conditions, has_word, is_condition, lists};
+ghost use Rattle.command_settings.specs.Settings.{AreConflicting, HasConflict, HasNoRules, IsBlind, IsTwofold, IsUnknown, are_conditions, asks_tilelink, has_word, is_condition, is_profile, lists};
 
 use clap::error::ErrorKind;
 use machine_types::MemoryModel;
@@ -19,6 +19,9 @@ const BLIND: &str =
 /// What to do where a search is to fail on what there isn't.
 const UNKNOWN: &str =
     "--fail-on takes failure, stuck or incomplete, or several of them with a comma between each two";
+
+/// What to do where messages are to be judged by rules that there aren't.
+const NO_PROFILE: &str = "--profile takes machine or tilelink";
 
 /// Apply the events of the file `script` to a machine that begins with the file `image`, which has bare
 /// words where `raw` is set, and else is an ELF file.
@@ -203,9 +206,40 @@ pub struct Check<'a> {
     pub messages: bool,
     /// Each question among the messages has its answer by the end.
     pub ended: bool,
+    /// By whose rules the messages are judged: `machine` or `tilelink`, and this machine's where none is named.
+    pub profile: Option<&'a str>,
     /// Under which the order is judged.
     pub model: MemoryModel,
     pub trace: &'a str,
+}
+
+impl Check<'_> {
+    /// Whether the messages are judged by what TileLink asks, and not by all that this machine keeps.
+    pub fn asks_tilelink(&self) -> bool
+        ensures { result ≡ asks_tilelink self.now.profile }
+    {
+        match self.profile {
+            Some(name) => name == "tilelink",
+            None => false,
+        }
+    }
+
+    /// What to do where nobody's rules are asked for, if they are.
+    fn conflict(&self) -> Option<&'static str>
+        ensures { IsSome result ↔ HasNoRules self.now }
+    {
+        match self.profile {
+            Some(name) if !is_profile(name) => Some(NO_PROFILE),
+            _ => None,
+        }
+    }
+}
+
+/// Whether somebody's rules have this name.
+fn is_profile(name: &str) -> bool
+    ensures { result ≡ is_profile name.now }
+{
+    matches!(name, "machine" | "tilelink")
 }
 
 /// What the program is to do.
@@ -231,13 +265,13 @@ impl Settings<'_> {
         match self {
             Settings::Explore(explore) => explore.conflict(),
             Settings::Show(show) => show.explore.conflict(),
+            Settings::Check(check) => check.conflict(),
             Settings::Replay(_)
             | Settings::Run(_)
             | Settings::Explain(_)
             | Settings::Chart(_)
             | Settings::Page(_)
-            | Settings::Fences(_)
-            | Settings::Check(_) => None,
+            | Settings::Fences(_) => None,
         }
     }
 }

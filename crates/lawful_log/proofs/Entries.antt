@@ -1,4 +1,4 @@
--- The lawful log by entries: what one more entry asks, and that a log is lawful exactly where no entry breaks a rule.
+-- The lawful log by entries: what one more entry asks, and that a log is lawful exactly where no entry breaks a rule of this machine's.
 use Rattle.std.proofs.Common.{ℕ, Bool, true, false, List, [], ◌∷◌, ◌++◌, ◌≡◌, Some, None, refl, ap, sym, ◌∙◌, subst, length}
 use Rattle.std.specs.Prelude.{◌==◌, IsTrue, slice_get}
 use Rattle.std.proofs.lemmas.Bool.{eq-eqb}
@@ -7,10 +7,11 @@ use Rattle.std.proofs.lemmas.List.{append-nil, append_assoc}
 use mathlib.Core.Logic.{◌⊎◌, inl, inr}
 use Rattle.machine_model.proofs.log.Counts.{no_last, one_sent, one_taken}
 use Rattle.machine_model.proofs.log.Lists.{comes_out, goes_in, is_in, one_more, part, sent_on_sent, sent_on_taken, taken_on_sent, taken_on_taken}
-use Rattle.machine_model.specs.LawfulLog.{IsBeginningOf, IsLawfulLog, is_on, may_send, sent_on, taken_on}
+use Rattle.machine_model.specs.LawfulLog.{IsBeginningOf, IsLawfulLog, IsLogInOrder, is_on, may_send, sent_on, taken_on}
 use Rattle.lawful_log.proofs.Sends.{goes, goes_by}
 use Rattle.lawful_log.specs.Laws.{EntriesDecide}
-use Rattle.lawful_log.specs.Rules.{IsFront, IsLawfulByEntries, Obeys, KeepsGoing, MayComeBy}
+use Rattle.lawful_log.specs.Rules.{IsFront, IsLawfulBy, Obeys, KeepsGoing, MayComeBy}
+use Rattle.lawful_log.specs.declared.profile.Profile.TheVariants.{Machine}
 use Rattle.lawful_log.specs.declared.rule.LogRule.{LogRule}
 use Rattle.lawful_log.specs.declared.rule.LogRule.TheVariants.{InOrder, Question, Permission, Data, AcquireOnce, ProbeOnce, GrantAlone, ReleaseAlone}
 use Rattle.tl_types.specs.Message.{channel_of}
@@ -93,27 +94,52 @@ is_own_or_other c k h m = go (eqb_tells h k) (is_on c (channel_of m)) refl
     go (inl e) false f = inr (rw (e.0, f) refl)
     go (inr e) b f = inr (rw e.0 refl)
 
+-- ---- queues in order
+
+pub none_in_order : IsLogInOrder []
+none_in_order c h [] rest e = ([], refl)
+none_in_order c h (x ∷ before) rest e = cc e
+
+-- whatever goes in
+pub order_with_sent : (log : List Logged) (h : ℕ) (m : Msg) → IsLogInOrder log → IsLogInOrder (log ++ goes_in h m ∷ [])
+order_with_sent log h m order = λ c k. one_more (λ (l : List Logged). IsBeginningOf (taken_on c k l) (sent_on c k l)) log (goes_in h m) (order c k) (now c k)
+  where
+    now : (c : Channel) (k : ℕ) → IsBeginningOf (taken_on c k (log ++ goes_in h m ∷ [])) (sent_on c k (log ++ goes_in h m ∷ []))
+    now c k =
+        let old : IsBeginningOf (taken_on c k log) (sent_on c k log) = order c k log [] (append-nil log) in
+        (old.0 ++ part (is_in c k h m) m, ap (λ (l : List Msg). l ++ (old.0 ++ part (is_in c k h m) m)) (taken_on_sent c k log h m) ∙ (sym (append_assoc (taken_on c k log) old.0 (part (is_in c k h m) m)) ∙ (ap (λ (l : List Msg). l ++ part (is_in c k h m) m) old.1 ∙ sym (sent_on_sent c k log h m))))
+
+-- where the front comes out
+pub order_with_taken : (log : List Logged) (h : ℕ) (m : Msg) → IsLogInOrder log → IsFront h m log → IsLogInOrder (log ++ comes_out h m ∷ [])
+order_with_taken log h m order front = λ c k. one_more (λ (l : List Logged). IsBeginningOf (taken_on c k l) (sent_on c k l)) log (comes_out h m) (order c k) (now c k (is_own_or_other c k h m))
+  where
+    Start : Channel → ℕ → Type 0
+    Start c k = IsBeginningOf (taken_on c k log ++ part (is_in c k h m) m) (sent_on c k log)
+
+    from : (c : Channel) (k : ℕ) → Start c k → IsBeginningOf (taken_on c k (log ++ comes_out h m ∷ [])) (sent_on c k (log ++ comes_out h m ∷ []))
+    from c k s = (s.0, ap (λ (l : List Msg). l ++ s.0) (taken_on_taken c k log h m) ∙ (s.1 ∙ sym (sent_on_taken c k log h m)))
+
+    own : IsBeginningOf (taken_on (channel_of m) h log ++ m ∷ []) (sent_on (channel_of m) h log)
+    own =
+        let old : IsBeginningOf (taken_on (channel_of m) h log) (sent_on (channel_of m) h log) = order (channel_of m) h log [] (append-nil log) in
+        from_front (taken_on (channel_of m) h log) (sent_on (channel_of m) h log) old.0 m old.1 front
+
+    now : (c : Channel) (k : ℕ) → ((is_in c k h m ≡ true) × ((h ≡ k) × (c ≡ channel_of m))) ⊎ (is_in c k h m ≡ false) → IsBeginningOf (taken_on c k (log ++ comes_out h m ∷ [])) (sent_on c k (log ++ comes_out h m ∷ []))
+    now c k (inl e) = from c k (subst (λ (b : Bool). IsBeginningOf (taken_on c k log ++ part b m) (sent_on c k log)) (sym e.0) (subst (λ (j : ℕ). IsBeginningOf (taken_on c j log ++ m ∷ []) (sent_on c j log)) e.1.0 (subst (λ (d : Channel). IsBeginningOf (taken_on d h log ++ m ∷ []) (sent_on d h log)) (sym e.1.1) own)))
+    now c k (inr e) =
+        let old : IsBeginningOf (taken_on c k log) (sent_on c k log) = order c k log [] (append-nil log) in
+        from c k (subst (λ (b : Bool). IsBeginningOf (taken_on c k log ++ part b m) (sent_on c k log)) (sym e) (subst (λ (l : List Msg). IsBeginningOf l (sent_on c k log)) (sym (append-nil (taken_on c k log))) old))
+
 -- ---- a lawful log and its parts
 
-pub none_lawful : IsLawfulLog []
+none_lawful : IsLawfulLog []
 none_lawful = record {
-  in_order = λ c h before rest e. start c h before rest e;
+  in_order = none_in_order;
   each_sent = λ h m before rest e. absurd (no_last before rest (goes_in h m) e);
-}
-  where
-    start : (c : Channel) (h : ℕ) (before rest : List Logged) → before ++ rest ≡ [] → IsBeginningOf (taken_on c h before) (sent_on c h before)
-    start c h [] rest e = ([], refl)
-    start c h (x ∷ before) rest e = cc e
-
--- a beginning of a lawful log is lawful
-pub beginning_lawful : (log rest : List Logged) → IsLawfulLog (log ++ rest) → IsLawfulLog log
-beginning_lawful log rest all = record {
-  in_order = λ c h before more e. all.in_order c h before (more ++ rest) (sym (append_assoc before more rest) ∙ ap (λ (l : List Logged). l ++ rest) e);
-  each_sent = λ h m before more e. all.each_sent h m before (more ++ rest) (sym (append_assoc before (goes_in h m ∷ more) rest) ∙ ap (λ (l : List Logged). l ++ rest) e);
 }
 
 -- each entry of a lawful log keeps each rule
-keeps_each : (log rest : List Logged) (d : Direction) (h : ℕ) (m : Msg) → IsLawfulLog (log ++ (record { direction = d; hart = h; message = m }) ∷ rest) → (rule : LogRule) → KeepsGoing d rule h m log
+keeps_each : (log rest : List Logged) (d : Direction) (h : ℕ) (m : Msg) → IsLawfulLog (log ++ (record { direction = d; hart = h; message = m }) ∷ rest) → (rule : LogRule) → KeepsGoing Machine d rule h m log
 keeps_each log rest Sent h m all rule = goes_by h m.line log m.body (all.each_sent h m log rest refl) rule
 keeps_each log rest Taken h m all rule = came rule
   where
@@ -136,58 +162,36 @@ keeps_each log rest Taken h m all rule = came rule
     came GrantAlone = refl
     came ReleaseAlone = refl
 
-pub lawful_keeps : (log rest : List Logged) (e : Logged) → IsLawfulLog (log ++ e ∷ rest) → (rule : LogRule) → Obeys rule log e
+lawful_keeps : (log rest : List Logged) (e : Logged) → IsLawfulLog (log ++ e ∷ rest) → (rule : LogRule) → Obeys Machine rule log e
 lawful_keeps log rest e = keeps_each log rest e.direction e.hart e.message
 
 -- a lawful log with one more entry that keeps each rule is lawful
 one_sent_lawful : (log : List Logged) (h : ℕ) (m : Msg) → IsLawfulLog log → IsTrue (may_send m.body h m.line log) → IsLawfulLog (log ++ goes_in h m ∷ [])
 one_sent_lawful log h m all goes_out = record {
-  in_order = λ c k. one_more (λ (l : List Logged). IsBeginningOf (taken_on c k l) (sent_on c k l)) log (goes_in h m) (all.in_order c k) (now c k);
+  in_order = order_with_sent log h m all.in_order;
   each_sent = one_sent (λ k n l. IsTrue (may_send n.body k n.line l)) log h m all.each_sent goes_out;
 }
-  where
-    now : (c : Channel) (k : ℕ) → IsBeginningOf (taken_on c k (log ++ goes_in h m ∷ [])) (sent_on c k (log ++ goes_in h m ∷ []))
-    now c k =
-        let old : IsBeginningOf (taken_on c k log) (sent_on c k log) = all.in_order c k log [] (append-nil log) in
-        (old.0 ++ part (is_in c k h m) m, ap (λ (l : List Msg). l ++ (old.0 ++ part (is_in c k h m) m)) (taken_on_sent c k log h m) ∙ (sym (append_assoc (taken_on c k log) old.0 (part (is_in c k h m) m)) ∙ (ap (λ (l : List Msg). l ++ part (is_in c k h m) m) old.1 ∙ sym (sent_on_sent c k log h m))))
 
 one_taken_lawful : (log : List Logged) (h : ℕ) (m : Msg) → IsLawfulLog log → IsFront h m log → IsLawfulLog (log ++ comes_out h m ∷ [])
 one_taken_lawful log h m all front = record {
-  in_order = λ c k. one_more (λ (l : List Logged). IsBeginningOf (taken_on c k l) (sent_on c k l)) log (comes_out h m) (all.in_order c k) (now c k (is_own_or_other c k h m));
+  in_order = order_with_taken log h m all.in_order front;
   each_sent = one_taken (λ k n l. IsTrue (may_send n.body k n.line l)) log h m all.each_sent;
 }
-  where
-    Start : Channel → ℕ → Type 0
-    Start c k = IsBeginningOf (taken_on c k log ++ part (is_in c k h m) m) (sent_on c k log)
 
-    from : (c : Channel) (k : ℕ) → Start c k → IsBeginningOf (taken_on c k (log ++ comes_out h m ∷ [])) (sent_on c k (log ++ comes_out h m ∷ []))
-    from c k s = (s.0, ap (λ (l : List Msg). l ++ s.0) (taken_on_taken c k log h m) ∙ (s.1 ∙ sym (sent_on_taken c k log h m)))
-
-    own : IsBeginningOf (taken_on (channel_of m) h log ++ m ∷ []) (sent_on (channel_of m) h log)
-    own =
-        let old : IsBeginningOf (taken_on (channel_of m) h log) (sent_on (channel_of m) h log) = all.in_order (channel_of m) h log [] (append-nil log) in
-        from_front (taken_on (channel_of m) h log) (sent_on (channel_of m) h log) old.0 m old.1 front
-
-    now : (c : Channel) (k : ℕ) → ((is_in c k h m ≡ true) × ((h ≡ k) × (c ≡ channel_of m))) ⊎ (is_in c k h m ≡ false) → IsBeginningOf (taken_on c k (log ++ comes_out h m ∷ [])) (sent_on c k (log ++ comes_out h m ∷ []))
-    now c k (inl e) = from c k (subst (λ (b : Bool). IsBeginningOf (taken_on c k log ++ part b m) (sent_on c k log)) (sym e.0) (subst (λ (j : ℕ). IsBeginningOf (taken_on c j log ++ m ∷ []) (sent_on c j log)) e.1.0 (subst (λ (d : Channel). IsBeginningOf (taken_on d h log ++ m ∷ []) (sent_on d h log)) (sym e.1.1) own)))
-    now c k (inr e) =
-        let old : IsBeginningOf (taken_on c k log) (sent_on c k log) = all.in_order c k log [] (append-nil log) in
-        from c k (subst (λ (b : Bool). IsBeginningOf (taken_on c k log ++ part b m) (sent_on c k log)) (sym e) (subst (λ (l : List Msg). IsBeginningOf l (sent_on c k log)) (sym (append-nil (taken_on c k log))) old))
-
-one_lawful : (log : List Logged) (d : Direction) (h : ℕ) (m : Msg) → IsLawfulLog log → ((rule : LogRule) → KeepsGoing d rule h m log) → IsLawfulLog (log ++ (record { direction = d; hart = h; message = m }) ∷ [])
+one_lawful : (log : List Logged) (d : Direction) (h : ℕ) (m : Msg) → IsLawfulLog log → ((rule : LogRule) → KeepsGoing Machine d rule h m log) → IsLawfulLog (log ++ (record { direction = d; hart = h; message = m }) ∷ [])
 one_lawful log Sent h m all each = one_sent_lawful log h m all (goes h m.line log m.body each)
 one_lawful log Taken h m all each = one_taken_lawful log h m all (each InOrder)
 
-pub lawful_with : (log : List Logged) (e : Logged) → IsLawfulLog log → ((rule : LogRule) → Obeys rule log e) → IsLawfulLog (log ++ e ∷ [])
+lawful_with : (log : List Logged) (e : Logged) → IsLawfulLog log → ((rule : LogRule) → Obeys Machine rule log e) → IsLawfulLog (log ++ e ∷ [])
 lawful_with log e = one_lawful log e.direction e.hart e.message
 
 -- ---- whole and by entries
 
-by_entries : (done rest : List Logged) → IsLawfulLog done → IsLawfulByEntries (done ++ rest) → IsLawfulLog (done ++ rest)
+by_entries : (done rest : List Logged) → IsLawfulLog done → IsLawfulBy Machine (done ++ rest) → IsLawfulLog (done ++ rest)
 by_entries done [] so_far each = subst IsLawfulLog (sym (append-nil done)) so_far
 by_entries done (e ∷ rest) so_far each =
     let seam : (done ++ e ∷ []) ++ rest ≡ done ++ e ∷ rest = append_assoc done (e ∷ []) rest in
-    subst IsLawfulLog seam (by_entries (done ++ e ∷ []) rest (lawful_with done e so_far (λ rule. each rule done rest e refl)) (subst IsLawfulByEntries (sym seam) each))
+    subst IsLawfulLog seam (by_entries (done ++ e ∷ []) rest (lawful_with done e so_far (λ rule. each rule done rest e refl)) (subst (IsLawfulBy Machine) (sym seam) each))
 
 pub entries_decide_lem : EntriesDecide
 entries_decide_lem log = (λ all rule before rest e q. lawful_keeps before rest e (subst IsLawfulLog (sym q) all) rule, λ each. by_entries [] log none_lawful each)

@@ -1,12 +1,14 @@
--- The rules by facts are the rules by the log, where the log is lawful so far.
+-- The rules by facts are the rules by the log, where the log is lawful so far by the same profile.
 use Rattle.std.proofs.Common.{ℕ, Bool, true, false, List, ◌≡◌, ◌∙◌, Some, None, ap, refl, sym, subst}
 use Rattle.std.specs.Prelude.{◌↔◌, ◌&&◌, IsTrue, Option, not, unwrap_or}
-use Rattle.machine_model.specs.LawfulLog.{IsLawfulLog, asked_by_next, is_grant, is_grant_ack, is_of_line, is_probe, is_probe_ack, is_settled, lost_since_asking, no_grant_open, no_hart_probed}
+use Rattle.machine_model.specs.LawfulLog.{asked_by_next, is_grant, is_grant_ack, is_of_line, is_probe, is_probe_ack, is_settled, lost_since_asking, no_grant_open, no_hart_probed}
 use Rattle.machine_model.specs.LogLaws.{AgreeInSum}
-use Rattle.machine_model.proofs.log.Sums.{sums_agree}
 use Rattle.lawful_log.specs.Facts as by_facts
 use Rattle.lawful_log.specs.Facts.{GoesBy, KeepsBy, front_for, known_of, without_data}
-use Rattle.lawful_log.specs.Rules.{Obeys, KeepsGoing, fits_data, may_go_by}
+use Rattle.lawful_log.proofs.Sums.{sums_agree}
+use Rattle.lawful_log.specs.Rules.{IsLawfulBy, Obeys, KeepsGoing, fits_data, may_go_by, may_have_data}
+use Rattle.lawful_log.specs.declared.profile.Profile.{Profile}
+use Rattle.lawful_log.specs.declared.profile.Profile.TheVariants.{Machine, TileLink}
 use Rattle.lawful_log.specs.declared.rule.LogRule.{LogRule}
 use Rattle.lawful_log.specs.declared.rule.LogRule.TheVariants.{InOrder, Question, Permission, Data, AcquireOnce, ProbeOnce, GrantAlone, ReleaseAlone}
 use Rattle.tl_types.specs.declared.message.Body.{Body}
@@ -17,20 +19,24 @@ use Rattle.trace_recorder.specs.declared.logged.Direction.{Direction}
 use Rattle.trace_recorder.specs.declared.logged.Direction.TheVariants.{Sent, Taken}
 use Rattle.trace_recorder.specs.declared.logged.Logged.{Logged}
 
-module _ (h line : ℕ) (log : List Logged) (agree : AgreeInSum line log) where
-  without_same : (o : Option Grow) → fits_data o false h line log ≡ unwrap_or (without_data o (lost_since_asking h line false log)) true
+module _ (profile : Profile) (h line : ℕ) (log : List Logged) (agree : AgreeInSum line log) where
+  without_same : (o : Option Grow) → fits_data profile o false h line log ≡ unwrap_or (without_data o (lost_since_asking h line false log)) true
   without_same None = refl
   without_same (Some g) = refl
 
-  with_same : (o : Option Grow) → fits_data o true h line log ≡ not (unwrap_or (without_data o (lost_since_asking h line false log)) false)
-  with_same None = refl
+  with_same : (o : Option Grow) → fits_data profile o true h line log ≡ may_have_data profile (unwrap_or (without_data o (lost_since_asking h line false log)) false)
+  with_same None = asked_nothing profile
+    where
+      asked_nothing : (p : Profile) → true ≡ may_have_data p false
+      asked_nothing Machine = refl
+      asked_nothing TileLink = refl
   with_same (Some g) = refl
 
   -- the facts have the numbers of all harts together
   alone : (no_hart_probed line log && no_grant_open line log) ≡ (is_settled is_probe is_probe_ack (is_of_line line) log && is_settled is_grant is_grant_ack (is_of_line line) log)
   alone = sym (ap (λ (b : Bool). b && is_settled is_grant is_grant_ack (is_of_line line) log) agree.probes ∙ ap (λ (b : Bool). no_hart_probed line log && b) agree.grants)
 
-  same : (rule : LogRule) (body : Body) → may_go_by rule body h line log ≡ by_facts.may_go_by rule body (known_of h line log)
+  same : (rule : LogRule) (body : Body) → may_go_by profile rule body h line log ≡ by_facts.may_go_by profile rule body (known_of h line log)
   same InOrder body = refl
   same Question (AcquireBlock g) = refl
   same Question (ProbeBlock c) = refl
@@ -103,16 +109,16 @@ module _ (h line : ℕ) (log : List Logged) (agree : AgreeInSum line log) where
   same ReleaseAlone ReleaseAck = refl
   same ReleaseAlone GrantAck = refl
 
-going : (d : Direction) (rule : LogRule) (h : ℕ) (m : Msg) (log : List Logged) → AgreeInSum m.line log → GoesBy d rule m (front_for h m log) (known_of h m.line log) ↔ KeepsGoing d rule h m log
-going Sent rule h m log agree = (λ t. subst IsTrue (sym (same h m.line log agree rule m.body)) t, λ t. subst IsTrue (same h m.line log agree rule m.body) t)
-going Taken InOrder h m log agree = (λ t. t, λ t. t)
-going Taken Question h m log agree = (λ t. t, λ t. t)
-going Taken Permission h m log agree = (λ t. t, λ t. t)
-going Taken Data h m log agree = (λ t. t, λ t. t)
-going Taken AcquireOnce h m log agree = (λ t. t, λ t. t)
-going Taken ProbeOnce h m log agree = (λ t. t, λ t. t)
-going Taken GrantAlone h m log agree = (λ t. t, λ t. t)
-going Taken ReleaseAlone h m log agree = (λ t. t, λ t. t)
+going : (profile : Profile) (d : Direction) (rule : LogRule) (h : ℕ) (m : Msg) (log : List Logged) → AgreeInSum m.line log → GoesBy profile d rule m (front_for h m log) (known_of h m.line log) ↔ KeepsGoing profile d rule h m log
+going profile Sent rule h m log agree = (λ t. subst IsTrue (sym (same profile h m.line log agree rule m.body)) t, λ t. subst IsTrue (same profile h m.line log agree rule m.body) t)
+going profile Taken InOrder h m log agree = (λ t. t, λ t. t)
+going profile Taken Question h m log agree = (λ t. t, λ t. t)
+going profile Taken Permission h m log agree = (λ t. t, λ t. t)
+going profile Taken Data h m log agree = (λ t. t, λ t. t)
+going profile Taken AcquireOnce h m log agree = (λ t. t, λ t. t)
+going profile Taken ProbeOnce h m log agree = (λ t. t, λ t. t)
+going profile Taken GrantAlone h m log agree = (λ t. t, λ t. t)
+going profile Taken ReleaseAlone h m log agree = (λ t. t, λ t. t)
 
-pub keeps_by_facts : (rule : LogRule) (e : Logged) (log : List Logged) → IsLawfulLog log → KeepsBy rule (front_for e.hart e.message log) (known_of e.hart e.message.line log) e ↔ Obeys rule log e
-keeps_by_facts rule e log lawful = going e.direction rule e.hart e.message log (sums_agree e.message.line log lawful)
+pub keeps_by_facts : (profile : Profile) (rule : LogRule) (e : Logged) (log : List Logged) → IsLawfulBy profile log → KeepsBy profile rule (front_for e.hart e.message log) (known_of e.hart e.message.line log) e ↔ Obeys profile rule log e
+keeps_by_facts profile rule e log lawful = going profile e.direction rule e.hart e.message log (sums_agree profile e.message.line log lawful)

@@ -1,5 +1,8 @@
 pub mod Sends
 pub mod Entries
+pub mod Behind
+pub mod Nested
+pub mod Sums
 pub mod Ranks
 pub mod Judged
 pub mod Counted

@@ -9,6 +9,7 @@ use Rattle.lawful_log.specs.Facts.{FindsBreach, FindsBroken, GoesBy, Known, MayC
 use Rattle.lawful_log.specs.Followed.{Follows, HartKnown, all_in, grows_given, hart_known_of, known_from, known_in, noted, waiting_after, waiting_on}
 use Rattle.lawful_log.specs.Rules.{Obeys}
 use Rattle.lawful_log.specs.declared.followed.Followed.{Followed}
+use Rattle.lawful_log.specs.declared.profile.Profile.{Profile}
 use Rattle.lawful_log.specs.declared.rule.LogRule.{LogRule}
 use Rattle.lawful_log.specs.declared.rule.LogRule.TheVariants.{InOrder, Question, Permission, Data, AcquireOnce, ProbeOnce, GrantAlone, ReleaseAlone}
 use Rattle.lawful_log.specs.declared.tallies.Tallies.{Tallies}
@@ -27,9 +28,9 @@ pub in_front : (f : Followed) (log : List Logged) (h : ℕ) (m : Msg) → Follow
 in_front f log h m follows = sym (front_waits (taken_on (channel_of m) h log) (waiting_on f.queues (channel_of m) h) (sent_on (channel_of m) h log) (follows.queues (channel_of m) h))
 
 -- what stands against a message that is sent stands against the entry
-pub breaks_sent : (f : Followed) (log : List Logged) (e : Logged) (o : Option LogRule) → Follows f log → e.direction ≡ Sent → FindsBroken (known_from (known_in f.lines e.hart e.message.line) (all_in f.lines e.message.line)) e.message.body o
-    → FindsBreach (front_for e.hart e.message log) (known_of e.hart e.message.line log) e o
-breaks_sent f log e o follows sent found = go o (subst (λ (k : Known). FindsBroken k e.message.body o) (judged_by f log e.hart e.message.line follows) found)
+pub breaks_sent : (profile : Profile) (f : Followed) (log : List Logged) (e : Logged) (o : Option LogRule) → Follows f log → e.direction ≡ Sent → FindsBroken profile (known_from (known_in f.lines e.hart e.message.line) (all_in f.lines e.message.line)) e.message.body o
+    → FindsBreach profile (front_for e.hart e.message log) (known_of e.hart e.message.line log) e o
+breaks_sent profile f log e o follows sent found = go o (subst (λ (k : Known). FindsBroken profile k e.message.body o) (judged_by f log e.hart e.message.line follows) found)
   where
     known : Known
     known = known_of e.hart e.message.line log
@@ -37,17 +38,17 @@ breaks_sent f log e o follows sent found = go o (subst (λ (k : Known). FindsBro
     front : Option Msg
     front = front_for e.hart e.message log
 
-    go : (o : Option LogRule) → FindsBroken known e.message.body o → FindsBreach front known e o
-    go None all = λ r. subst (λ (d : Direction). GoesBy d r e.message front known) (sym sent) (all r)
+    go : (o : Option LogRule) → FindsBroken profile known e.message.body o → FindsBreach profile front known e o
+    go None all = λ r. subst (λ (d : Direction). GoesBy profile d r e.message front known) (sym sent) (all r)
     go (Some rule) first = (
-      λ kept. (let yes = subst (λ (d : Direction). GoesBy d rule e.message front known) sent kept in let no = first.0 in cc (yes, no)),
-      λ r below. subst (λ (d : Direction). GoesBy d r e.message front known) (sym sent) (first.1 r below),
+      λ kept. (let yes = subst (λ (d : Direction). GoesBy profile d rule e.message front known) sent kept in let no = first.0 in cc (yes, no)),
+      λ r below. subst (λ (d : Direction). GoesBy profile d r e.message front known) (sym sent) (first.1 r below),
     )
 
 -- one that is taken as its queue's front keeps each rule, and any other breaks the first
-pub keeps_front : (f : Followed) (log : List Logged) (e : Logged) → Follows f log → e.direction ≡ Taken → slice_get (waiting_on f.queues (channel_of e.message) e.hart) 0 ≡ Some e.message
-    → FindsBreach (front_for e.hart e.message log) (known_of e.hart e.message.line log) e None
-keeps_front f log e follows taken first = λ r. subst (λ (d : Direction). GoesBy d r e.message front known) (sym taken) (go r)
+pub keeps_front : (profile : Profile) (f : Followed) (log : List Logged) (e : Logged) → Follows f log → e.direction ≡ Taken → slice_get (waiting_on f.queues (channel_of e.message) e.hart) 0 ≡ Some e.message
+    → FindsBreach profile (front_for e.hart e.message log) (known_of e.hart e.message.line log) e None
+keeps_front profile f log e follows taken first = λ r. subst (λ (d : Direction). GoesBy profile d r e.message front known) (sym taken) (go r)
   where
     known : Known
     known = known_of e.hart e.message.line log
@@ -65,10 +66,10 @@ keeps_front f log e follows taken first = λ r. subst (λ (d : Direction). GoesB
     go GrantAlone = refl
     go ReleaseAlone = refl
 
-pub breaks_order : (f : Followed) (log : List Logged) (e : Logged) → Follows f log → e.direction ≡ Taken → (slice_get (waiting_on f.queues (channel_of e.message) e.hart) 0 ≡ Some e.message → ⊥)
-    → FindsBreach (front_for e.hart e.message log) (known_of e.hart e.message.line log) e (Some InOrder)
-breaks_order f log e follows taken other = (
-  λ kept. other (in_front f log e.hart e.message follows ∙ subst (λ (d : Direction). GoesBy d InOrder e.message (front_for e.hart e.message log) (known_of e.hart e.message.line log)) taken kept),
+pub breaks_order : (profile : Profile) (f : Followed) (log : List Logged) (e : Logged) → Follows f log → e.direction ≡ Taken → (slice_get (waiting_on f.queues (channel_of e.message) e.hart) 0 ≡ Some e.message → ⊥)
+    → FindsBreach profile (front_for e.hart e.message log) (known_of e.hart e.message.line log) e (Some InOrder)
+breaks_order profile f log e follows taken other = (
+  λ kept. other (in_front f log e.hart e.message follows ∙ subst (λ (d : Direction). GoesBy profile d InOrder e.message (front_for e.hart e.message log) (known_of e.hart e.message.line log)) taken kept),
   λ r below. absurd (omega arith),
 )
 
@@ -97,9 +98,9 @@ pub record IsNoted (f g : Followed) (e : Logged) : Type 0 where
   pub lines : (line : ℕ) → all_in g.lines line ≡ (if is_of_line line e then counted e (all_in f.lines line) else all_in f.lines line)
   pub queues : (c : Channel) (h : ℕ) → waiting_on g.queues c h ≡ waiting_after c h e (waiting_on f.queues c h)
 
-pub noted_follows : (f g : Followed) (log : List Logged) (e : Logged) → Follows f log → Obeys InOrder log e → IsNoted f g e → Follows g (log ++ e ∷ [])
-noted_follows f g log e old keeps now = record {
+pub noted_follows : (profile : Profile) (f g : Followed) (log : List Logged) (e : Logged) → Follows f log → Obeys profile InOrder log e → IsNoted f g e → Follows g (log ++ e ∷ [])
+noted_follows profile f g log e old keeps now = record {
   harts = λ h line. now.harts h line ∙ (ap (λ (k : HartKnown). if concerns h line e then noted e k else k) (old.harts h line) ∙ sym (hart_more h line log e));
   lines = λ line. now.lines line ∙ (ap (λ (t : Tallies). if is_of_line line e then counted e t else t) (old.lines line) ∙ sym (tallies_more (is_of_line line) log e));
-  queues = λ c h. ap (λ (q : List Msg). taken_on c h (log ++ e ∷ []) ++ q) (now.queues c h) ∙ queue_more c h log e (waiting_on f.queues c h) keeps (old.queues c h);
+  queues = λ c h. ap (λ (q : List Msg). taken_on c h (log ++ e ∷ []) ++ q) (now.queues c h) ∙ queue_more profile c h log e (waiting_on f.queues c h) keeps (old.queues c h);
 }

@@ -1,9 +1,10 @@
--- Where a message may be sent, rule by rule.
+-- Where a message may be sent by this machine's rules, rule by rule.
 use Rattle.std.proofs.Common.{ℕ, Bool, true, false, List, ◌≡◌, Some, None, refl}
 use Rattle.std.specs.Prelude.{◌&&◌, not, IsTrue, Option, is_some}
 use Rattle.std.proofs.lemmas.Bool.{and_from, and_parts}
 use Rattle.machine_model.specs.LawfulLog.{answers_acquire, asked_by_next, goes_without_data, is_for, may_send, no_grant_open, no_hart_probed}
 use Rattle.lawful_log.specs.Rules.{fits_data, is_asked, may_go_by}
+use Rattle.lawful_log.specs.declared.profile.Profile.TheVariants.{Machine}
 use Rattle.lawful_log.specs.declared.rule.LogRule.{LogRule}
 use Rattle.lawful_log.specs.declared.rule.LogRule.TheVariants.{InOrder, Question, Permission, Data, AcquireOnce, ProbeOnce, GrantAlone, ReleaseAlone}
 use Rattle.tl_types.specs.declared.message.Body.{Body}
@@ -28,17 +29,17 @@ module _ (h line : ℕ) (log : List Logged) where
   answered None d p t = t
   answered (Some g) d p t = refl
 
-  permitted : (o : Option Grow) (d : Bool) (p : Cap) → IsTrue (answers_acquire o d p h line log) → IsTrue (is_asked o p)
+  permitted : (o : Option Grow) (d : Bool) (p : Cap) → IsTrue (answers_acquire o d p h line log) → IsTrue (is_asked Machine o p)
   permitted None d p t = refl
   permitted (Some g) true p t = left (is_for g p) (not (goes_without_data h line log g)) t
   permitted (Some g) false p t = left (is_for g p) (goes_without_data h line log g) t
 
-  fitted : (o : Option Grow) (d : Bool) (p : Cap) → IsTrue (answers_acquire o d p h line log) → IsTrue (fits_data o d h line log)
+  fitted : (o : Option Grow) (d : Bool) (p : Cap) → IsTrue (answers_acquire o d p h line log) → IsTrue (fits_data Machine o d h line log)
   fitted None d p t = refl
   fitted (Some g) true p t = right (is_for g p) (not (goes_without_data h line log g)) t
   fitted (Some g) false p t = right (is_for g p) (goes_without_data h line log g) t
 
-  answers : (o : Option Grow) (d : Bool) (p : Cap) → IsTrue (is_some o) → IsTrue (is_asked o p) → IsTrue (fits_data o d h line log) → IsTrue (answers_acquire o d p h line log)
+  answers : (o : Option Grow) (d : Bool) (p : Cap) → IsTrue (is_some o) → IsTrue (is_asked Machine o p) → IsTrue (fits_data Machine o d h line log) → IsTrue (answers_acquire o d p h line log)
   answers None d p a i f = a
   answers (Some g) true p a i f = both (is_for g p) (not (goes_without_data h line log g)) i f
   answers (Some g) false p a i f = both (is_for g p) (goes_without_data h line log g) i f
@@ -55,11 +56,11 @@ module _ (h line : ℕ) (log : List Logged) where
 
   -- ---- from the whole to each rule
 
-  pub goes_by : (body : Body) → IsTrue (may_send body h line log) → (rule : LogRule) → IsTrue (may_go_by rule body h line log)
+  pub goes_by : (body : Body) → IsTrue (may_send body h line log) → (rule : LogRule) → IsTrue (may_go_by Machine rule body h line log)
   goes_by body t InOrder = refl
   goes_by body t Question = question body t
     where
-      question : (body : Body) → IsTrue (may_send body h line log) → IsTrue (may_go_by Question body h line log)
+      question : (body : Body) → IsTrue (may_send body h line log) → IsTrue (may_go_by Machine Question body h line log)
       question (AcquireBlock g) t = refl
       question (ProbeBlock c) t = refl
       question (ProbeAck c) t = (and_parts _ _ t).0
@@ -72,7 +73,7 @@ module _ (h line : ℕ) (log : List Logged) where
       question GrantAck t = t
   goes_by body t Permission = permission body t
     where
-      permission : (body : Body) → IsTrue (may_send body h line log) → IsTrue (may_go_by Permission body h line log)
+      permission : (body : Body) → IsTrue (may_send body h line log) → IsTrue (may_go_by Machine Permission body h line log)
       permission (AcquireBlock g) t = refl
       permission (ProbeBlock c) t = refl
       permission (ProbeAck c) t = refl
@@ -85,7 +86,7 @@ module _ (h line : ℕ) (log : List Logged) where
       permission GrantAck t = refl
   goes_by body t Data = fits body t
     where
-      fits : (body : Body) → IsTrue (may_send body h line log) → IsTrue (may_go_by Data body h line log)
+      fits : (body : Body) → IsTrue (may_send body h line log) → IsTrue (may_go_by Machine Data body h line log)
       fits (AcquireBlock g) t = refl
       fits (ProbeBlock c) t = refl
       fits (ProbeAck c) t = refl
@@ -98,7 +99,7 @@ module _ (h line : ℕ) (log : List Logged) where
       fits GrantAck t = refl
   goes_by body t AcquireOnce = once body t
     where
-      once : (body : Body) → IsTrue (may_send body h line log) → IsTrue (may_go_by AcquireOnce body h line log)
+      once : (body : Body) → IsTrue (may_send body h line log) → IsTrue (may_go_by Machine AcquireOnce body h line log)
       once (AcquireBlock g) t = (and_parts _ _ t).0
       once (ProbeBlock c) t = refl
       once (ProbeAck c) t = refl
@@ -111,7 +112,7 @@ module _ (h line : ℕ) (log : List Logged) where
       once GrantAck t = refl
   goes_by body t ProbeOnce = once body t
     where
-      once : (body : Body) → IsTrue (may_send body h line log) → IsTrue (may_go_by ProbeOnce body h line log)
+      once : (body : Body) → IsTrue (may_send body h line log) → IsTrue (may_go_by Machine ProbeOnce body h line log)
       once (AcquireBlock g) t = refl
       once (ProbeBlock c) t = (and_parts _ _ t).0
       once (ProbeAck c) t = refl
@@ -124,7 +125,7 @@ module _ (h line : ℕ) (log : List Logged) where
       once GrantAck t = refl
   goes_by body t GrantAlone = alone body t
     where
-      alone : (body : Body) → IsTrue (may_send body h line log) → IsTrue (may_go_by GrantAlone body h line log)
+      alone : (body : Body) → IsTrue (may_send body h line log) → IsTrue (may_go_by Machine GrantAlone body h line log)
       alone (AcquireBlock g) t = refl
       alone (ProbeBlock c) t = (and_parts _ _ t).1
       alone (ProbeAck c) t = refl
@@ -137,7 +138,7 @@ module _ (h line : ℕ) (log : List Logged) where
       alone GrantAck t = refl
   goes_by body t ReleaseAlone = alone body t
     where
-      alone : (body : Body) → IsTrue (may_send body h line log) → IsTrue (may_go_by ReleaseAlone body h line log)
+      alone : (body : Body) → IsTrue (may_send body h line log) → IsTrue (may_go_by Machine ReleaseAlone body h line log)
       alone (AcquireBlock g) t = (and_parts _ _ t).1
       alone (ProbeBlock c) t = refl
       alone (ProbeAck c) t = (and_parts _ _ t).1
@@ -154,7 +155,7 @@ module _ (h line : ℕ) (log : List Logged) where
   with_grant : (d : Bool) (p : Cap) → IsTrue (granted d p) → IsTrue (no_hart_probed line log && no_grant_open line log) → IsTrue (granted d p && no_hart_probed line log && no_grant_open line log)
   with_grant d p a t = both _ _ (both _ _ a (and_parts _ _ t).0) (and_parts _ _ t).1
 
-  pub goes : (body : Body) → ((rule : LogRule) → IsTrue (may_go_by rule body h line log)) → IsTrue (may_send body h line log)
+  pub goes : (body : Body) → ((rule : LogRule) → IsTrue (may_go_by Machine rule body h line log)) → IsTrue (may_send body h line log)
   goes (AcquireBlock g) each = both _ _ (each AcquireOnce) (each ReleaseAlone)
   goes (ProbeBlock c) each = both _ _ (each ProbeOnce) (each GrantAlone)
   goes (ProbeAck c) each = both _ _ (each Question) (each ReleaseAlone)

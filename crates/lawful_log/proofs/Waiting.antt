@@ -8,6 +8,7 @@ use Rattle.machine_model.specs.LawfulLog.{is_on, sent_on, taken_on}
 use Rattle.lawful_log.proofs.Entries.{is_own_or_other}
 use Rattle.lawful_log.specs.Followed.{moved, waiting_after}
 use Rattle.lawful_log.specs.Rules.{IsFront, KeepsGoing}
+use Rattle.lawful_log.specs.declared.profile.Profile.{Profile}
 use Rattle.lawful_log.specs.declared.rule.LogRule.TheVariants.{InOrder}
 use Rattle.tl_types.specs.Message.{channel_of}
 use Rattle.tl_types.specs.declared.message.Channel.{Channel}
@@ -63,14 +64,14 @@ follow_taken c k log h m q all front = comes_first (taken_on c k log) q (sent_on
         subst (λ (b : Bool). q ≡ part b m ++ (if b then drop 1 q else q)) (sym e.0) off
     go (inr e) = subst (λ (b : Bool). q ≡ part b m ++ (if b then drop 1 q else q)) (sym e) refl
 
-follow : (d : Direction) (c : Channel) (k : ℕ) (log : List Logged) (h : ℕ) (m : Msg) (q : List Msg) → KeepsGoing d InOrder h m log → taken_on c k log ++ q ≡ sent_on c k log
+follow : (profile : Profile) (d : Direction) (c : Channel) (k : ℕ) (log : List Logged) (h : ℕ) (m : Msg) (q : List Msg) → KeepsGoing profile d InOrder h m log → taken_on c k log ++ q ≡ sent_on c k log
     → taken_on c k (log ++ entry_of d h m ∷ []) ++ waiting_after c k (entry_of d h m) q ≡ sent_on c k (log ++ entry_of d h m ∷ [])
-follow Sent c k log h m q keeps all = follow_sent c k log h m q all
-follow Taken c k log h m q keeps all = follow_taken c k log h m q all keeps
+follow profile Sent c k log h m q keeps all = follow_sent c k log h m q all
+follow profile Taken c k log h m q keeps all = follow_taken c k log h m q all keeps
 
-pub queue_more : (c : Channel) (k : ℕ) (log : List Logged) (e : Logged) (q : List Msg) → KeepsGoing e.direction InOrder e.hart e.message log → taken_on c k log ++ q ≡ sent_on c k log
+pub queue_more : (profile : Profile) (c : Channel) (k : ℕ) (log : List Logged) (e : Logged) (q : List Msg) → KeepsGoing profile e.direction InOrder e.hart e.message log → taken_on c k log ++ q ≡ sent_on c k log
     → taken_on c k (log ++ e ∷ []) ++ waiting_after c k e q ≡ sent_on c k (log ++ e ∷ [])
-queue_more c k log e q keeps all = follow e.direction c k log e.hart e.message q keeps all
+queue_more profile c k log e q keeps all = follow profile e.direction c k log e.hart e.message q keeps all
 
 -- what holds on each channel
 pub each_channel : (P : Channel → Type 0) → P A → P B → P C → P D → P E → (c : Channel) → P c

@@ -1,7 +1,8 @@
 -- What is counted of a log, and the rules in terms of it.
 use Rattle.std.specs.Prelude.{ℕ, ◌≡◌, ◌<◌, ◌+◌, ◌^◌, Bool, true, false, ◌&&◌, not, ◌==◌, nat_lt, List, Option, Some, None, IsTrue, is_some, unwrap_or, length, slice_get}
 use Rattle.machine_model.specs.LawfulLog.{asked_by_next, concerns, is_acquire, is_BtoT, is_grant, is_grant_ack, is_of_line, is_probe, is_probe_ack, is_release, is_release_ack, lost_since_asking, sent_count, sent_on, taken_count, taken_on}
-use Rattle.lawful_log.specs.Rules.{is_asked, rank}
+use Rattle.lawful_log.specs.Rules.{is_asked, may_have_data, rank}
+use Rattle.lawful_log.specs.declared.profile.Profile.{Profile}
 use Rattle.lawful_log.specs.declared.facts.Facts.{Facts}
 use Rattle.lawful_log.specs.declared.rule.LogRule.{LogRule}
 use Rattle.lawful_log.specs.declared.rule.LogRule.TheVariants.{InOrder, Question, Permission, Data, AcquireOnce, ProbeOnce, GrantAlone, ReleaseAlone}
@@ -110,10 +111,10 @@ has_question (GrantData cap bytes) f = is_some f.asked
 has_question ReleaseAck f = nat_lt f.hart.release_acks.sent f.hart.releases.taken
 has_question GrantAck f = nat_lt f.hart.grant_acks.sent f.hart.grants.taken
 
-abbrev pub has_permission : Body → Known → Bool
-has_permission (Grant cap) f = is_asked f.asked cap
-has_permission (GrantData cap bytes) f = is_asked f.asked cap
-has_permission _ f = true
+abbrev pub has_permission : Profile → Body → Known → Bool
+has_permission profile (Grant cap) f = is_asked profile f.asked cap
+has_permission profile (GrantData cap bytes) f = is_asked profile f.asked cap
+has_permission profile _ f = true
 
 abbrev pub without_data : Option Grow → (lost : Bool) → Option Bool
 without_data None lost = None
@@ -122,10 +123,10 @@ without_data (Some grow) lost = Some (is_BtoT grow && not lost)
 abbrev pub goes_without_data : Known → Option Bool
 goes_without_data f = without_data f.asked f.lost
 
-abbrev pub has_right_data : Body → Known → Bool
-has_right_data (Grant cap) f = unwrap_or (goes_without_data f) true
-has_right_data (GrantData cap bytes) f = not (unwrap_or (goes_without_data f) false)
-has_right_data _ f = true
+abbrev pub has_right_data : Profile → Body → Known → Bool
+has_right_data profile (Grant cap) f = unwrap_or (goes_without_data f) true
+has_right_data profile (GrantData cap bytes) f = may_have_data profile (unwrap_or (goes_without_data f) false)
+has_right_data profile _ f = true
 
 abbrev pub is_no_acquire_open : Known → Bool
 is_no_acquire_open f = f.hart.acquires.sent == f.hart.grants.taken
@@ -158,33 +159,33 @@ leaves_release_alone (Release change) f = is_no_release_open f && is_no_acquire_
 leaves_release_alone (ReleaseData change bytes) f = is_no_release_open f && is_no_acquire_open f
 leaves_release_alone _ f = true
 
-abbrev pub may_go_by : LogRule → Body → Known → Bool
-may_go_by InOrder body f = true
-may_go_by Question body f = has_question body f
-may_go_by Permission body f = has_permission body f
-may_go_by Data body f = has_right_data body f
-may_go_by AcquireOnce body f = is_acquired_once body f
-may_go_by ProbeOnce body f = is_probed_once body f
-may_go_by GrantAlone body f = leaves_grant_alone body f
-may_go_by ReleaseAlone body f = leaves_release_alone body f
+abbrev pub may_go_by : Profile → LogRule → Body → Known → Bool
+may_go_by profile InOrder body f = true
+may_go_by profile Question body f = has_question body f
+may_go_by profile Permission body f = has_permission profile body f
+may_go_by profile Data body f = has_right_data profile body f
+may_go_by profile AcquireOnce body f = is_acquired_once body f
+may_go_by profile ProbeOnce body f = is_probed_once body f
+may_go_by profile GrantAlone body f = leaves_grant_alone body f
+may_go_by profile ReleaseAlone body f = leaves_release_alone body f
 
 -- each rule lets a message of this body go out, or this is the first that doesn't
-abbrev pub FindsBroken : Known → Body → Option LogRule → Type 0
-FindsBroken f body None = (r : LogRule) → may_go_by r body f ≡ true
-FindsBroken f body (Some rule) = (may_go_by rule body f ≡ false) × ((r : LogRule) → rank r < rank rule → may_go_by r body f ≡ true)
+abbrev pub FindsBroken : Profile → Known → Body → Option LogRule → Type 0
+FindsBroken profile f body None = (r : LogRule) → may_go_by profile r body f ≡ true
+FindsBroken profile f body (Some rule) = (may_go_by profile rule body f ≡ false) × ((r : LogRule) → rank r < rank rule → may_go_by profile r body f ≡ true)
 
 abbrev pub MayComeBy : LogRule → Msg → (front : Option Msg) → Type 0
 MayComeBy InOrder m front = front ≡ Some m
 MayComeBy _ m front = IsTrue true
 
-abbrev pub GoesBy : Direction → LogRule → Msg → (front : Option Msg) → Known → Type 0
-GoesBy Sent rule m front f = IsTrue (may_go_by rule m.body f)
-GoesBy Taken rule m front f = MayComeBy rule m front
+abbrev pub GoesBy : Profile → Direction → LogRule → Msg → (front : Option Msg) → Known → Type 0
+GoesBy profile Sent rule m front f = IsTrue (may_go_by profile rule m.body f)
+GoesBy profile Taken rule m front f = MayComeBy rule m front
 
-abbrev pub KeepsBy : LogRule → (front : Option Msg) → Known → Logged → Type 0
-KeepsBy rule front f e = GoesBy e.direction rule e.message front f
+abbrev pub KeepsBy : Profile → LogRule → (front : Option Msg) → Known → Logged → Type 0
+KeepsBy profile rule front f e = GoesBy profile e.direction rule e.message front f
 
 -- all rules are kept, or this is the first that is broken
-abbrev pub FindsBreach : (front : Option Msg) → Known → Logged → Option LogRule → Type 0
-FindsBreach front f e None = (r : LogRule) → KeepsBy r front f e
-FindsBreach front f e (Some rule) = (¬ KeepsBy rule front f e) × ((r : LogRule) → rank r < rank rule → KeepsBy r front f e)
+abbrev pub FindsBreach : Profile → (front : Option Msg) → Known → Logged → Option LogRule → Type 0
+FindsBreach profile front f e None = (r : LogRule) → KeepsBy profile r front f e
+FindsBreach profile front f e (Some rule) = (¬ KeepsBy profile rule front f e) × ((r : LogRule) → rank r < rank rule → KeepsBy profile r front f e)

@@ -1,6 +1,8 @@
--- The rules of the lawful log entry by entry: what each asks of an entry, behind the entries before it.
+-- The rules of the lawful log entry by entry: what each asks of an entry, behind the entries before it. Two of them ask less where TileLink alone is asked (TileLink 1.8.1, "Permissions transitions": a Grant may give more than its Acquire asked for; "TL-C": GrantData may answer any AcquireBlock).
 use Rattle.std.specs.Prelude.{ℕ, ◌≡◌, Bool, true, false, ◌&&◌, not, List, ◌∷◌, ◌++◌, Option, Some, None, IsTrue, codes, is_some, length, slice_get}
 use Rattle.machine_model.specs.LawfulLog.{asked_by_next, concerns, goes_without_data, is_for, is_grant, is_grant_ack, is_owed, is_probe, is_probe_ack, is_release, is_release_ack, no_acquire_open, no_grant_open, no_hart_probed, no_probe_open, no_release_open, sent_on, taken_on}
+use Rattle.lawful_log.specs.declared.profile.Profile.{Profile}
+use Rattle.lawful_log.specs.declared.profile.Profile.TheVariants.{Machine, TileLink}
 use Rattle.lawful_log.specs.declared.rule.LogRule.{LogRule}
 use Rattle.lawful_log.specs.declared.rule.LogRule.TheVariants.{InOrder, Question, Permission, Data, AcquireOnce, ProbeOnce, GrantAlone, ReleaseAlone}
 use Rattle.tl_types.specs.Message.{channel_of}
@@ -8,7 +10,9 @@ use Rattle.tl_types.specs.declared.message.Body.{Body}
 use Rattle.tl_types.specs.declared.message.Body.TheVariants.{AcquireBlock, ProbeBlock, ProbeAck, ProbeAckData, Release, ReleaseData, Grant, GrantData, ReleaseAck, GrantAck}
 use Rattle.tl_types.specs.declared.message.Msg.{Msg}
 use Rattle.tl_types.specs.declared.permission.Cap.{Cap}
+use Rattle.tl_types.specs.declared.permission.Cap.TheVariants.{ToT, ToB}
 use Rattle.tl_types.specs.declared.permission.Grow.{Grow}
+use Rattle.tl_types.specs.declared.permission.Grow.TheVariants.{NtoB, NtoT, BtoT}
 use Rattle.trace_recorder.specs.declared.logged.Direction.{Direction}
 use Rattle.trace_recorder.specs.declared.logged.Direction.TheVariants.{Sent, Taken}
 use Rattle.trace_recorder.specs.declared.logged.Logged.{Logged}
@@ -28,26 +32,38 @@ has_question (GrantData cap bytes) h line log = is_some (asked_by_next h line lo
 has_question ReleaseAck h line log = is_owed is_release is_release_ack (concerns h line) log
 has_question GrantAck h line log = is_owed is_grant is_grant_ack (concerns h line) log
 
--- a Grant gives the permission that was asked for; where nothing was asked that is `question`'s matter
-abbrev pub is_asked : Option Grow → Cap → Bool
-is_asked None cap = true
-is_asked (Some grow) cap = is_for grow cap
+-- what an Acquire may be granted: by this machine's rules what it asks for, by TileLink's no less
+abbrev pub may_give : Profile → Grow → Cap → Bool
+may_give Machine grow cap = is_for grow cap
+may_give TileLink NtoB ToB = true
+may_give TileLink grow ToT = true
+may_give TileLink _ _ = false
 
-abbrev pub has_permission : Body → ℕ → ℕ → List Logged → Bool
-has_permission (Grant cap) h line log = is_asked (asked_by_next h line log) cap
-has_permission (GrantData cap bytes) h line log = is_asked (asked_by_next h line log) cap
-has_permission _ h line log = true
+-- a Grant gives what its Acquire may be granted; where nothing was asked that is `question`'s matter
+abbrev pub is_asked : Profile → Option Grow → Cap → Bool
+is_asked profile None cap = true
+is_asked profile (Some grow) cap = may_give profile grow cap
+
+abbrev pub has_permission : Profile → Body → ℕ → ℕ → List Logged → Bool
+has_permission profile (Grant cap) h line log = is_asked profile (asked_by_next h line log) cap
+has_permission profile (GrantData cap bytes) h line log = is_asked profile (asked_by_next h line log) cap
+has_permission profile _ h line log = true
+
+-- whether a Grant that can go without data may have some: by TileLink's rules it may
+abbrev pub may_have_data : Profile → (can_go_without : Bool) → Bool
+may_have_data Machine without = not without
+may_have_data TileLink without = true
 
 -- a Grant has data unless it goes without
-abbrev pub fits_data : Option Grow → (with_data : Bool) → ℕ → ℕ → List Logged → Bool
-fits_data None with_data h line log = true
-fits_data (Some grow) true h line log = not (goes_without_data h line log grow)
-fits_data (Some grow) false h line log = goes_without_data h line log grow
+abbrev pub fits_data : Profile → Option Grow → (with_data : Bool) → ℕ → ℕ → List Logged → Bool
+fits_data profile None with_data h line log = true
+fits_data profile (Some grow) true h line log = may_have_data profile (goes_without_data h line log grow)
+fits_data profile (Some grow) false h line log = goes_without_data h line log grow
 
-abbrev pub has_right_data : Body → ℕ → ℕ → List Logged → Bool
-has_right_data (Grant cap) h line log = fits_data (asked_by_next h line log) false h line log
-has_right_data (GrantData cap bytes) h line log = fits_data (asked_by_next h line log) true h line log
-has_right_data _ h line log = true
+abbrev pub has_right_data : Profile → Body → ℕ → ℕ → List Logged → Bool
+has_right_data profile (Grant cap) h line log = fits_data profile (asked_by_next h line log) false h line log
+has_right_data profile (GrantData cap bytes) h line log = fits_data profile (asked_by_next h line log) true h line log
+has_right_data profile _ h line log = true
 
 abbrev pub is_acquired_once : Body → ℕ → ℕ → List Logged → Bool
 is_acquired_once (AcquireBlock grow) h line log = no_acquire_open h line log
@@ -73,15 +89,15 @@ leaves_release_alone (Release change) h line log = no_release_open h line log &&
 leaves_release_alone (ReleaseData change bytes) h line log = no_release_open h line log && no_acquire_open h line log
 leaves_release_alone _ h line log = true
 
-abbrev pub may_go_by : LogRule → Body → ℕ → ℕ → List Logged → Bool
-may_go_by InOrder body h line log = true
-may_go_by Question body h line log = has_question body h line log
-may_go_by Permission body h line log = has_permission body h line log
-may_go_by Data body h line log = has_right_data body h line log
-may_go_by AcquireOnce body h line log = is_acquired_once body h line log
-may_go_by ProbeOnce body h line log = is_probed_once body h line log
-may_go_by GrantAlone body h line log = leaves_grant_alone body h line log
-may_go_by ReleaseAlone body h line log = leaves_release_alone body h line log
+abbrev pub may_go_by : Profile → LogRule → Body → ℕ → ℕ → List Logged → Bool
+may_go_by profile InOrder body h line log = true
+may_go_by profile Question body h line log = has_question body h line log
+may_go_by profile Permission body h line log = has_permission profile body h line log
+may_go_by profile Data body h line log = has_right_data profile body h line log
+may_go_by profile AcquireOnce body h line log = is_acquired_once body h line log
+may_go_by profile ProbeOnce body h line log = is_probed_once body h line log
+may_go_by profile GrantAlone body h line log = leaves_grant_alone body h line log
+may_go_by profile ReleaseAlone body h line log = leaves_release_alone body h line log
 
 -- ---- what a message that is taken owes
 
@@ -95,16 +111,35 @@ MayComeBy _ h m log = IsTrue true
 
 -- ---- an entry keeps a rule, behind a log
 
-abbrev pub KeepsGoing : Direction → LogRule → ℕ → Msg → List Logged → Type 0
-KeepsGoing Sent rule h m log = IsTrue (may_go_by rule m.body h m.line log)
-KeepsGoing Taken rule h m log = MayComeBy rule h m log
+abbrev pub KeepsGoing : Profile → Direction → LogRule → ℕ → Msg → List Logged → Type 0
+KeepsGoing profile Sent rule h m log = IsTrue (may_go_by profile rule m.body h m.line log)
+KeepsGoing profile Taken rule h m log = MayComeBy rule h m log
 
-abbrev pub Obeys : LogRule → List Logged → Logged → Type 0
-Obeys rule log e = KeepsGoing e.direction rule e.hart e.message log
+abbrev pub Obeys : Profile → LogRule → List Logged → Logged → Type 0
+Obeys profile rule log e = KeepsGoing profile e.direction rule e.hart e.message log
 
 -- each entry keeps each rule, behind those before it
-abbrev pub IsLawfulByEntries : List Logged → Type 0
-IsLawfulByEntries log = (rule : LogRule) (before rest : List Logged) (e : Logged) → before ++ e ∷ rest ≡ log → Obeys rule before e
+abbrev pub IsLawfulBy : Profile → List Logged → Type 0
+IsLawfulBy profile log = (rule : LogRule) (before rest : List Logged) (e : Logged) → before ++ e ∷ rest ≡ log → Obeys profile rule before e
+
+-- this machine's rule may refuse a message to which TileLink's has nothing to object: a Grant of Trunk or of data
+abbrev pub is_trunk : Cap → Bool
+is_trunk ToT = true
+is_trunk _ = false
+
+abbrev pub gives_trunk : Body → Bool
+gives_trunk (Grant cap) = is_trunk cap
+gives_trunk (GrantData cap bytes) = is_trunk cap
+gives_trunk _ = false
+
+abbrev pub gives_data : Body → Bool
+gives_data (GrantData cap bytes) = true
+gives_data _ = false
+
+abbrev pub asks_more : LogRule → Body → Bool
+asks_more Permission body = gives_trunk body
+asks_more Data body = gives_data body
+asks_more _ body = false
 
 -- the rules' order
 abbrev pub rank : LogRule → ℕ

@@ -2,8 +2,9 @@
 ghost use Rattle.std.specs.Prelude.{◌≡◌};
 ghost use Rattle.lawful_log.specs.Facts.{FindsBroken, told};
 ghost use Rattle.lawful_log.specs.Facts as spec;
-ghost use Rattle.lawful_log.specs.Rules.{is_asked};
+ghost use Rattle.lawful_log.specs.Rules.{is_asked, may_give, may_have_data};
 
+use crate::profile::Profile;
 use crate::rule::LogRule;
 use crate::tallies::Tallies;
 use tl_types::{Body, Cap, Grow};
@@ -23,25 +24,25 @@ pub(crate) struct Facts<'a> {
 
 impl Facts<'_> {
     /// The first rule that a message of this body breaks.
-    pub(crate) fn broken(&self, body: &Body) -> Option<LogRule>
-        ensures { FindsBroken (told self.now) body.now result }
+    pub(crate) fn broken(&self, profile: Profile, body: &Body) -> Option<LogRule>
+        ensures { FindsBroken profile (told self.now) body.now result }
     {
         for rule in LogRule::ALL {
-            if !self.may_go_by(rule, body) {
+            if !self.may_go_by(profile, rule, body) {
                 return Some(rule);
             }
         }
         None
     }
 
-    fn may_go_by(&self, rule: LogRule, body: &Body) -> bool
-        ensures { result ≡ spec.may_go_by rule body.now (told self.now) }
+    fn may_go_by(&self, profile: Profile, rule: LogRule, body: &Body) -> bool
+        ensures { result ≡ spec.may_go_by profile rule body.now (told self.now) }
     {
         match rule {
             LogRule::InOrder => true,
             LogRule::Question => self.has_question(body),
-            LogRule::Permission => self.has_permission(body),
-            LogRule::Data => self.has_right_data(body),
+            LogRule::Permission => self.has_permission(profile, body),
+            LogRule::Data => self.has_right_data(profile, body),
             LogRule::AcquireOnce => self.is_acquired_once(body),
             LogRule::ProbeOnce => self.is_probed_once(body),
             LogRule::GrantAlone => self.leaves_grant_alone(body),
@@ -63,26 +64,28 @@ impl Facts<'_> {
         }
     }
 
-    fn has_permission(&self, body: &Body) -> bool
-        ensures { result ≡ spec.has_permission body.now (told self.now) }
+    fn has_permission(&self, profile: Profile, body: &Body) -> bool
+        ensures { result ≡ spec.has_permission profile body.now (told self.now) }
     {
         match body {
-            Body::Grant(cap) | Body::GrantData { cap, .. } => is_asked(self.asked, *cap),
+            Body::Grant(cap) | Body::GrantData { cap, .. } => is_asked(profile, self.asked, *cap),
             _ => true,
         }
     }
 
-    fn has_right_data(&self, body: &Body) -> bool
-        ensures { result ≡ spec.has_right_data body.now (told self.now) }
+    fn has_right_data(&self, profile: Profile, body: &Body) -> bool
+        ensures { result ≡ spec.has_right_data profile body.now (told self.now) }
     {
         match body {
             Body::Grant(_) => self.goes_without_data().unwrap_or(true),
-            Body::GrantData { .. } => !self.goes_without_data().unwrap_or(false),
+            Body::GrantData { .. } => {
+                may_have_data(profile, self.goes_without_data().unwrap_or(false))
+            }
             _ => true,
         }
     }
 
-    // Whether the next Grant is without data, if there is a next Grant.
+    // Whether the next Grant can go without data, if there is a next Grant.
     fn goes_without_data(&self) -> Option<bool>
         ensures { result ≡ spec.goes_without_data (told self.now) }
     {
@@ -139,13 +142,33 @@ impl Facts<'_> {
     }
 }
 
-// Whether this is the permission that was asked for; it is where nothing was.
-fn is_asked(asked: Option<Grow>, cap: Cap) -> bool
-    ensures { result ≡ is_asked asked cap }
+// Whether what was asked for may be granted so; it may where nothing was.
+fn is_asked(profile: Profile, asked: Option<Grow>, cap: Cap) -> bool
+    ensures { result ≡ is_asked profile asked cap }
 {
     match asked {
-        Some(Grow::NtoB) => cap == Cap::ToB,
-        Some(Grow::NtoT | Grow::BtoT) => cap == Cap::ToT,
+        Some(grow) => may_give(profile, grow, cap),
         None => true,
+    }
+}
+
+// Whether a Grant may have data that can go without.
+fn may_have_data(profile: Profile, can_go_without: bool) -> bool
+    ensures { result ≡ may_have_data profile can_go_without }
+{
+    match profile {
+        Profile::Machine => !can_go_without,
+        Profile::TileLink => true,
+    }
+}
+
+// What an Acquire may be granted.
+fn may_give(profile: Profile, grow: Grow, cap: Cap) -> bool
+    ensures { result ≡ may_give profile grow cap }
+{
+    match (profile, grow) {
+        (Profile::TileLink, Grow::NtoB) => cap != Cap::ToN,
+        (Profile::Machine, Grow::NtoB) => cap == Cap::ToB,
+        (_, Grow::NtoT | Grow::BtoT) => cap == Cap::ToT,
     }
 }

@@ -3,11 +3,13 @@ ghost use Rattle.std.specs.Prelude.{◌≡◌, ◌+◌, ◌<◌, ℕ, List, ◌�
 ghost use Rattle.lawful_log.specs.Facts.{FindsBreach, FindsBroken, HaveRoom, counted, front_for, known_of};
 ghost use Rattle.lawful_log.specs.Followed.{Follows, IsFollowable, all_in, known_from, known_in, noted};
 ghost use Rattle.lawful_log.specs.Rules.{Obeys};
+ghost use Rattle.lawful_log.specs.declared.profile.Profile.{Profile as ProfileValue};
 ghost use Rattle.lawful_log.specs.declared.rule.LogRule.TheVariants.{InOrder};
 ghost use Rattle.machine_model.specs.LawfulLog.{concerns, is_of_line};
 ghost use Rattle.trace_recorder.specs.declared.logged.Logged.{Logged as LoggedValue};
 
 use crate::lines::{LineLog, broken_by_first};
+use crate::profile::Profile;
 use crate::queues::Queues;
 use crate::rule::LogRule;
 use crate::tallies::Tallies;
@@ -44,12 +46,12 @@ impl Followed {
     }
 
     /// The first rule that the next entry breaks.
-    pub(crate) fn broken(&self, entry: &Logged) -> Option<LogRule>
+    pub(crate) fn broken(&self, profile: Profile, entry: &Logged) -> Option<LogRule>
         ensures { (log : List LoggedValue) → Follows self.now log
-            → FindsBreach (front_for entry.now.hart entry.now.message log) (known_of entry.now.hart entry.now.message.line log) entry.now result }
+            → FindsBreach profile (front_for entry.now.hart entry.now.message log) (known_of entry.now.hart entry.now.message.line log) entry.now result }
     {
         match entry.direction {
-            Direction::Sent => broken_by_sending(&self.lines, entry),
+            Direction::Sent => broken_by_sending(&self.lines, profile, entry),
             Direction::Taken => {
                 if self.queues.is_front(entry) {
                     None
@@ -63,7 +65,7 @@ impl Followed {
     /// One more entry, in its queue's order.
     pub(crate) fn note(&mut self, alloc: Global, entry: &Logged) -> Result<(), AllocError>
         requires { IsFollowable self.old }
-        ensures { OnOk result ((log : List LoggedValue) → Follows self.old log → Obeys InOrder log entry.now → Follows self.new (log ++ entry.now ∷ [])) }
+        ensures { OnOk result ((profile : ProfileValue) (log : List LoggedValue) → Follows self.old log → Obeys profile InOrder log entry.now → Follows self.new (log ++ entry.now ∷ [])) }
     {
         note_line(alloc, &mut self.lines, entry)?;
         self.queues.note(entry)?;
@@ -71,13 +73,17 @@ impl Followed {
     }
 }
 
-fn broken_by_sending(lines: &HashMap<u32, LineLog>, entry: &Logged) -> Option<LogRule>
-    ensures { FindsBroken (known_from (known_in lines.now entry.now.hart entry.now.message.line) (all_in lines.now entry.now.message.line)) entry.now.message.body result }
+fn broken_by_sending(
+    lines: &HashMap<u32, LineLog>,
+    profile: Profile,
+    entry: &Logged,
+) -> Option<LogRule>
+    ensures { FindsBroken profile (known_from (known_in lines.now entry.now.hart entry.now.message.line) (all_in lines.now entry.now.message.line)) entry.now.message.body result }
 {
     let body = &entry.message.body;
     match lines.get(&entry.message.line) {
-        Some(line) => line.broken(entry.hart, body),
-        None => broken_by_first(&Tallies::none(), body),
+        Some(line) => line.broken(profile, entry.hart, body),
+        None => broken_by_first(profile, &Tallies::none(), body),
     }
 }
 

@@ -6,10 +6,12 @@ mod checking;
 mod facts;
 mod followed;
 mod lines;
+mod profile;
 mod queues;
 mod rule;
 mod tallies;
 
 pub use awaited::{Answer, Awaited, first_awaited};
 pub use checking::check_log;
-pub use rule::{LogRule, LogVerdict, entries_decide};
+pub use profile::Profile;
+pub use rule::{LogRule, LogVerdict, entries_decide, profiles_nest};

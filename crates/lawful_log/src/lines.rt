@@ -6,6 +6,7 @@ ghost use Rattle.machine_model.specs.LawfulLog.{is_loss};
 ghost use Rattle.machine_model.specs.LawfulLog as lawful;
 
 use crate::facts::Facts;
+use crate::profile::Profile;
 use crate::rule::LogRule;
 use crate::tallies::Tallies;
 use std::alloc::{AllocError, Global};
@@ -45,12 +46,12 @@ impl LineLog {
     }
 
     /// The first rule that a message breaks which is sent to or by the hart.
-    pub(crate) fn broken(&self, hart: u8, body: &Body) -> Option<LogRule>
-        ensures { FindsBroken (known_from (known_at self.now.harts.items hart) self.now.all) body.now result }
+    pub(crate) fn broken(&self, profile: Profile, hart: u8, body: &Body) -> Option<LogRule>
+        ensures { FindsBroken profile (known_from (known_at self.now.harts.items hart) self.now.all) body.now result }
     {
         match self.harts.get(usize::from(hart)) {
-            Some(hart) => hart.broken(&self.all, body),
-            None => broken_by_first(&self.all, body),
+            Some(hart) => hart.broken(profile, &self.all, body),
+            None => broken_by_first(profile, &self.all, body),
         }
     }
 
@@ -90,8 +91,8 @@ fn reach(alloc: Global, harts: &mut Vec<HartLog>, hart: usize) -> Result<(), All
 }
 
 /// The first rule that a message breaks which is the first of its line and its hart.
-pub(crate) fn broken_by_first(line: &Tallies, body: &Body) -> Option<LogRule>
-    ensures { FindsBroken (known_from nothing_known line.now) body.now result }
+pub(crate) fn broken_by_first(profile: Profile, line: &Tallies, body: &Body) -> Option<LogRule>
+    ensures { FindsBroken profile (known_from nothing_known line.now) body.now result }
 {
     let facts = Facts {
         hart: &Tallies::none(),
@@ -99,7 +100,7 @@ pub(crate) fn broken_by_first(line: &Tallies, body: &Body) -> Option<LogRule>
         asked: None,
         lost: false,
     };
-    facts.broken(body)
+    facts.broken(profile, body)
 }
 
 impl HartLog {
@@ -114,8 +115,8 @@ impl HartLog {
         }
     }
 
-    fn broken(&self, line: &Tallies, body: &Body) -> Option<LogRule>
-        ensures { FindsBroken (known_from (hart_known self.now) line.now) body.now result }
+    fn broken(&self, profile: Profile, line: &Tallies, body: &Body) -> Option<LogRule>
+        ensures { FindsBroken profile (known_from (hart_known self.now) line.now) body.now result }
     {
         let facts = Facts {
             hart: &self.tallies,
@@ -123,7 +124,7 @@ impl HartLog {
             asked: self.asked.get(self.tallies.grants.sent).copied(),
             lost: self.lost,
         };
-        facts.broken(body)
+        facts.broken(profile, body)
     }
 
     fn note(&mut self, entry: &Logged) -> Result<(), AllocError>

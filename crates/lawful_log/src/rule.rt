@@ -1,10 +1,12 @@
 //! The rules of the lawful log, and the verdict on a log.
 ghost use Rattle.std.specs.Prelude.{◌≡◌};
-ghost use Rattle.lawful_log.specs.Laws.{EntriesDecide};
-ghost use Rattle.lawful_log.specs.Rules.{rule_name};
+ghost use Rattle.lawful_log.specs.Laws.{EntriesDecide, IsOwnRule, ProfilesNest};
+ghost use Rattle.lawful_log.specs.Rules.{asks_more, gives_trunk, rule_name};
 
 use std::fmt;
 use std::fmt::Display;
+use tl_types::{Body, Cap};
+use trace_recorder::Logged;
 
 /// A rule that each entry of a log keeps, in the order in which they are asked.
 #[derive(Clone, Copy, Debug, PartialEq, Eq)]
@@ -13,9 +15,10 @@ pub enum LogRule {
     InOrder,
     /// An answer is sent where a question of its kind has arrived that wasn't answered yet.
     Question,
-    /// A Grant gives the permission that its Acquire asked for.
+    /// A Grant gives the permission that its Acquire asked for; by TileLink's rules it may give more.
     Permission,
-    /// A Grant is without data exactly where its Acquire was BtoT and the Branch copy wasn't lost meanwhile.
+    /// A Grant is without data exactly where its Acquire was BtoT and the Branch copy wasn't lost meanwhile; by
+    /// TileLink's rules it may have data there too.
     Data,
     /// No second Acquire before the first one's Grant is taken.
     AcquireOnce,
@@ -57,6 +60,33 @@ impl LogRule {
             LogRule::ReleaseAlone => "release-alone",
         }
     }
+
+    /// Whether an entry that breaks this rule of the machine's keeps it as TileLink asks it.
+    pub fn is_own(self, entry: &Logged) -> bool
+        ensures { IsOwnRule self entry.now result }
+    {
+        asks_more(self, &entry.message.body)
+    }
+}
+
+/// Whether this machine's rule may refuse a message to which TileLink's has nothing to object.
+fn asks_more(rule: LogRule, body: &Body) -> bool
+    ensures { result ≡ asks_more rule body.now }
+{
+    match rule {
+        LogRule::Permission => gives_trunk(body),
+        LogRule::Data => matches!(body, Body::GrantData { .. }),
+        _ => false,
+    }
+}
+
+fn gives_trunk(body: &Body) -> bool
+    ensures { result ≡ gives_trunk body.now }
+{
+    match body {
+        Body::Grant(cap) | Body::GrantData { cap, .. } => *cap == Cap::ToT,
+        _ => false,
+    }
 }
 
 impl Display for LogRule {
@@ -86,4 +116,9 @@ impl Display for LogVerdict {
 /// A log is lawful exactly where each entry keeps each rule, behind the entries before it.
 pub fn entries_decide()
     ensures { EntriesDecide }
+{}
+
+/// Whoever keeps this machine's rules keeps TileLink's.
+pub fn profiles_nest()
+    ensures { ProfilesNest }
 {}

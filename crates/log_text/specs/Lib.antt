@@ -6,3 +6,4 @@ pub mod Places
 pub mod Verdicts
 pub use Rattle.message_judge.specs.Laws
 pub use Rattle.message_judge.specs.declared.verdict.MessageVerdict
+pub use Rattle.lawful_log.specs.declared.profile.Profile

@@ -1,9 +1,9 @@
 //! What stands against a message, in words.
-ghost use Rattle.log_text.specs.Objections.{ObjectsTo};
+ghost use Rattle.log_text.specs.Objections.{IsOwnTo, ObjectsTo};
 
 use crate::spelling::{Routed, Spelt, is_spelt_alike};
 use crate::waiting::{awaits_release_ack, front_of};
-use lawful_log::{Awaited, LogRule, first_awaited};
+use lawful_log::{Awaited, LogRule, Profile, first_awaited};
 use std::fmt;
 use std::fmt::Display;
 use tl_types::Msg;
@@ -13,8 +13,12 @@ use trace_recorder::Logged;
 /// `GrantData 0x80000100 toT to hart 1: hart 0's GrantAck of this line wasn't taken yet`.
 #[derive(Clone, Copy, Debug)]
 pub struct Objection {
+    /// Whose rule it is.
+    pub profile: Profile,
     pub rule: LogRule,
     pub entry: Logged,
+    /// Whether this machine alone asks this of the entry, and TileLink has nothing to object.
+    pub own: bool,
     /// The answer of the line that was due before the entry.
     pub awaited: Option<Awaited>,
     /// The message that was in front of the entry's queue before it.
@@ -24,15 +28,24 @@ pub struct Objection {
 }
 
 impl Objection {
-    /// To the entry at `index` of a log of so many harts, which breaks the rule. None beyond the log.
-    pub fn to(log: &[Logged], rule: LogRule, index: usize, harts: u8) -> Option<Objection>
-        ensures { ObjectsTo rule index harts log.now result }
+    /// To the entry at `index` of a log of so many harts, which breaks the rule as the profile asks it. None beyond
+    /// the log.
+    pub fn to(
+        log: &[Logged],
+        profile: Profile,
+        rule: LogRule,
+        index: usize,
+        harts: u8,
+    ) -> Option<Objection>
+        ensures { ObjectsTo profile rule index harts log.now result }
     {
         let entry = *log.get(index)?;
         let before = &log[..index];
         Some(Objection {
+            profile,
             rule,
             entry,
+            own: is_own(profile, rule, &entry),
             awaited: first_awaited(before, entry.message.line, harts),
             front: front_of(before, entry.message.channel(), entry.hart),
             awaits_release_ack: awaits_release_ack(before, entry.message.line, entry.hart),
@@ -44,9 +57,16 @@ impl Objection {
         let cause = match self.rule {
             LogRule::InOrder => return put_front(self.front, self.entry.message, f),
             LogRule::Question => "no question that was taken is left for it to answer",
-            LogRule::Permission => "the Acquire that it answers asked for another permission",
-            LogRule::Data =>
-                "a Grant is without data exactly where its Acquire was BtoT and the copy wasn't lost meanwhile",
+            LogRule::Permission => match self.profile {
+                Profile::Machine => "the Acquire that it answers asked for another permission",
+                Profile::TileLink => "the Acquire that it answers asked for more",
+            },
+            LogRule::Data => match self.profile {
+                Profile::Machine =>
+                    "a Grant is without data exactly where its Acquire was BtoT and the copy wasn't lost meanwhile",
+                Profile::TileLink =>
+                    "a Grant is without data only where its Acquire was BtoT and the copy wasn't lost meanwhile",
+            },
             LogRule::AcquireOnce =>
                 "the Grant of the hart's earlier Acquire of this line wasn't taken yet",
             LogRule::ProbeOnce =>
@@ -67,7 +87,22 @@ impl Objection {
 impl Display for Objection {
     fn fmt<W: fmt::Write>(&self, f: &mut fmt::Formatter<W>) -> fmt::Result {
         write!(f, "{}: ", Routed(self.entry))?;
-        self.put_cause(f)
+        self.put_cause(f)?;
+        if self.own {
+            f.write_str(" (a rule of this machine's own: --profile tilelink allows it)")
+        } else {
+            Ok(())
+        }
+    }
+}
+
+// Whether this machine alone asks this of an entry that breaks the rule as the profile asks it.
+fn is_own(profile: Profile, rule: LogRule, entry: &Logged) -> bool
+    ensures { IsOwnTo profile rule entry.now result }
+{
+    match profile {
+        Profile::Machine => rule.is_own(entry),
+        Profile::TileLink => false,
     }
 }
 

@@ -8,6 +8,8 @@ use Rattle.elf_loader.specs.Image.{Initial}
 use Rattle.lawful_log.specs.Laws as order
 use Rattle.lawful_log.specs.declared.rule.LogVerdict.{LogVerdict}
 use Rattle.lawful_log.specs.declared.rule.LogVerdict.TheVariants.{Lawful}
+use Rattle.lawful_log.specs.Rules.{IsLawfulBy}
+use Rattle.lawful_log.specs.declared.profile.Profile.{Profile}
 use Rattle.lawful_log.specs.LawfulLog.{IsLawfulLog}
 use Rattle.message_judge.specs.declared.verdict.MessageBreach.{MessageBreach}
 use Rattle.message_judge.specs.declared.verdict.MessageBreach.TheVariants.{Incoherent, Unanswered, Unlawful}
@@ -16,49 +18,53 @@ use Rattle.message_judge.specs.declared.verdict.MessageVerdict.TheVariants as me
 use Rattle.open_questions.specs.Open.{open_from}
 use Rattle.trace_recorder.specs.declared.logged.Logged.{Logged}
 
--- each message keeps each rule of both kinds, where memory begins as the image says, if it is known
-abbrev pub AreLawfulMessages : Option Initial → List Logged → Type 0
-AreLawfulMessages image log = IsLawfulLog log × IsCoherentLog image log
+-- each message keeps each rule of both kinds, by this machine's or by TileLink's, where memory begins as the image says, if it is known
+abbrev pub AreLawfulMessages : Profile → Option Initial → List Logged → Type 0
+AreLawfulMessages profile image log = IsLawfulBy profile log × IsCoherentLog image log
+
+-- messages of a lawful log that is coherent, as those of every machine are, are lawful by this machine's rules and by TileLink's
+abbrev pub LawfulByBoth : Type 0
+LawfulByBoth = (profile : Profile) (image : Option Initial) (log : List Logged) → IsLawfulLog log → IsCoherentLog image log → AreLawfulMessages profile image log
 
 -- the messages before it are lawful, and it breaks a rule: of the lawful log the first that it breaks, or of the coherent log, if it breaks none of the lawful log
-abbrev pub IsFirstFault : Option Initial → List Logged → MessageBreach → ℕ → Type 0
-IsFirstFault image log (Unlawful rule) index = order.IsFirstBreach log rule index × IsCoherentLog image (take index log)
-IsFirstFault image log (Incoherent breach) index = coherence.IsFirstBreach image log breach index × IsLawfulLog (take (index + 1) log)
-IsFirstFault image log Unanswered index = ⊥
+abbrev pub IsFirstFault : Profile → Option Initial → List Logged → MessageBreach → ℕ → Type 0
+IsFirstFault profile image log (Unlawful rule) index = order.IsFirstBreach profile log rule index × IsCoherentLog image (take index log)
+IsFirstFault profile image log (Incoherent breach) index = coherence.IsFirstBreach image log breach index × IsLawfulBy profile (take (index + 1) log)
+IsFirstFault profile image log Unanswered index = ⊥
 
 abbrev pub IfUnlawful : MessageVerdict → (MessageBreach → ℕ → Type 0) → Type 0
 IfUnlawful message.Lawful P = Unit {0}
 IfUnlawful (message.Unlawful breach index) P = P breach index
 
 -- the verdict on a log: lawful, or the first message that breaks a rule, and which
-pub record IsMessageVerdict (image : Option Initial) (log : List Logged) (v : MessageVerdict) : Type 0 where
-  pub lawful : (v ≡ message.Lawful) ↔ AreLawfulMessages image log
-  pub unlawful : IfUnlawful v (λ breach index. IsFirstFault image log breach index)
+pub record IsMessageVerdict (profile : Profile) (image : Option Initial) (log : List Logged) (v : MessageVerdict) : Type 0 where
+  pub lawful : (v ≡ message.Lawful) ↔ AreLawfulMessages profile image log
+  pub unlawful : IfUnlawful v (λ breach index. IsFirstFault profile image log breach index)
 
 -- each question has its answer too
-abbrev pub AreEndedMessages : Option Initial → List Logged → Type 0
-AreEndedMessages image log = AreLawfulMessages image log × (open_from 0 log ≡ [])
+abbrev pub AreEndedMessages : Profile → Option Initial → List Logged → Type 0
+AreEndedMessages profile image log = AreLawfulMessages profile image log × (open_from 0 log ≡ [])
 
 -- a rule is broken, or else this is the first question that no answer follows
-abbrev pub IsFirstFaultAtEnd : Option Initial → List Logged → MessageBreach → ℕ → Type 0
-IsFirstFaultAtEnd image log Unanswered index = AreLawfulMessages image log × (rest : List ℕ) × (open_from 0 log ≡ index ∷ rest)
-IsFirstFaultAtEnd image log (Unlawful rule) index = IsFirstFault image log (Unlawful rule) index
-IsFirstFaultAtEnd image log (Incoherent breach) index = IsFirstFault image log (Incoherent breach) index
+abbrev pub IsFirstFaultAtEnd : Profile → Option Initial → List Logged → MessageBreach → ℕ → Type 0
+IsFirstFaultAtEnd profile image log Unanswered index = AreLawfulMessages profile image log × (rest : List ℕ) × (open_from 0 log ≡ index ∷ rest)
+IsFirstFaultAtEnd profile image log (Unlawful rule) index = IsFirstFault profile image log (Unlawful rule) index
+IsFirstFaultAtEnd profile image log (Incoherent breach) index = IsFirstFault profile image log (Incoherent breach) index
 
 -- the verdict on a log that has ended
-pub record IsEndedVerdict (image : Option Initial) (log : List Logged) (v : MessageVerdict) : Type 0 where
-  pub lawful : (v ≡ message.Lawful) ↔ AreEndedMessages image log
-  pub unlawful : IfUnlawful v (λ breach index. IsFirstFaultAtEnd image log breach index)
+pub record IsEndedVerdict (profile : Profile) (image : Option Initial) (log : List Logged) (v : MessageVerdict) : Type 0 where
+  pub lawful : (v ≡ message.Lawful) ↔ AreEndedMessages profile image log
+  pub unlawful : IfUnlawful v (λ breach index. IsFirstFaultAtEnd profile image log breach index)
 
 -- the verdict on a log that has ended, or may go on
-abbrev pub IsVerdict : (ended : Bool) → Option Initial → List Logged → MessageVerdict → Type 0
+abbrev pub IsVerdict : (ended : Bool) → Profile → Option Initial → List Logged → MessageVerdict → Type 0
 IsVerdict true = IsEndedVerdict
 IsVerdict false = IsMessageVerdict
 
 -- those of the two judges
-pub record IsLogVerdict (log : List Logged) (v : LogVerdict) : Type 0 where
-  pub lawful : (v ≡ Lawful) ↔ IsLawfulLog log
-  pub unlawful : order.IfUnlawful v (λ rule index. order.IsFirstBreach log rule index)
+pub record IsLogVerdict (profile : Profile) (log : List Logged) (v : LogVerdict) : Type 0 where
+  pub lawful : (v ≡ Lawful) ↔ IsLawfulBy profile log
+  pub unlawful : order.IfUnlawful v (λ rule index. order.IsFirstBreach profile log rule index)
 
 pub record IsCoherenceVerdict (image : Option Initial) (log : List Logged) (v : CoherenceVerdict) : Type 0 where
   pub coherent : (v ≡ Coherent) ↔ IsCoherentLog image log

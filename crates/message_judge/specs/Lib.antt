@@ -1,2 +1,4 @@
 pub mod Names
 pub mod Laws
+pub use Rattle.lawful_log.specs.declared.profile.Profile
+pub use Rattle.lawful_log.specs.declared.profile.Profile.TheVariants

@@ -2,30 +2,32 @@
 ghost use Rattle.std.specs.Prelude.{IfOk, List, Option};
 ghost use Rattle.std.specs.Option.{option_copied};
 ghost use Rattle.elf_loader.specs.Image.{Initial};
-ghost use Rattle.message_judge.specs.Laws.{AreLawfulMessages, IsCoherenceVerdict, IsEndedVerdict, IsLogVerdict, IsMessageVerdict};
+ghost use Rattle.lawful_log.specs.declared.profile.Profile.{Profile as ProfileValue};
+ghost use Rattle.message_judge.specs.Laws.{AreLawfulMessages, IsCoherenceVerdict, IsEndedVerdict, IsLogVerdict, IsMessageVerdict, LawfulByBoth};
 ghost use Rattle.open_questions.specs.Open.{LeavesOpen, open_from};
 ghost use Rattle.trace_recorder.specs.declared.logged.Logged.{Logged as LoggedValue};
 
 use crate::verdict::{MessageBreach, MessageVerdict};
 use coherent_log::{Breach, CoherenceVerdict, check_coherence};
 use elf_loader::Image;
-use lawful_log::{LogRule, LogVerdict, check_log};
+use lawful_log::{LogRule, LogVerdict, Profile, check_log};
 use open_questions::{Open, left_open};
 use std::alloc::{AllocError, Global};
 use trace_recorder::Logged;
 
-/// Whether each message of a log keeps the rules of the lawful log and those of the coherent log, where no client has
+/// Whether each message of a log keeps the rules of the lawful log, as the profile asks them, and those of the coherent log, where no client has
 /// a permission at the start, and memory begins as the image says, or with bytes that aren't known; and where one
 /// doesn't, the first, with the first rule that it breaks: those of the lawful log come first. Each judge goes over
 /// the log once. The only error is want of memory.
 pub fn judge_messages(
     alloc: Global,
+    profile: Profile,
     image: Option<&Image>,
     log: &[Logged],
 ) -> Result<MessageVerdict, AllocError>
-    ensures { IfOk result (IsMessageVerdict (option_copied image.entry) log.now) }
+    ensures { IfOk result (IsMessageVerdict profile (option_copied image.entry) log.now) }
 {
-    let lawful = check_log(alloc, log)?;
+    let lawful = check_log(alloc, profile, log)?;
     let coherent = check_coherence(alloc, image, log)?;
     Ok(earlier(lawful, coherent))
 }
@@ -34,12 +36,13 @@ pub fn judge_messages(
 /// and else the first whose answer wasn't is unlawful. The only error is want of memory.
 pub fn judge_ended(
     alloc: Global,
+    profile: Profile,
     image: Option<&Image>,
     log: &[Logged],
 ) -> Result<MessageVerdict, AllocError>
-    ensures { IfOk result (IsEndedVerdict (option_copied image.entry) log.now) }
+    ensures { IfOk result (IsEndedVerdict profile (option_copied image.entry) log.now) }
 {
-    match judge_messages(alloc, image, log)? {
+    match judge_messages(alloc, profile, image, log)? {
         MessageVerdict::Lawful => Ok(at_end(left_open(alloc, log)?)),
         MessageVerdict::Unlawful { breach, index } => {
             Ok(MessageVerdict::Unlawful { breach, index })
@@ -49,7 +52,7 @@ pub fn judge_ended(
 
 /// The verdict on a log whose messages are lawful, and which leaves this open.
 fn at_end(found: Option<Open>) -> MessageVerdict
-    ensures { (image : Option Initial) (log : List LoggedValue) → AreLawfulMessages image log → LeavesOpen (open_from 0 log) found → IsEndedVerdict image log result }
+    ensures { (profile : ProfileValue) (image : Option Initial) (log : List LoggedValue) → AreLawfulMessages profile image log → LeavesOpen (open_from 0 log) found → IsEndedVerdict profile image log result }
 {
     match found {
         None => MessageVerdict::Lawful,
@@ -62,7 +65,7 @@ fn at_end(found: Option<Open>) -> MessageVerdict
 
 /// The verdict of both: of two breaches the earlier, of one message's that of the lawful log.
 fn earlier(lawful: LogVerdict, coherent: CoherenceVerdict) -> MessageVerdict
-    ensures { (image : Option Initial) (log : List LoggedValue) → IsLogVerdict log lawful → IsCoherenceVerdict image log coherent → IsMessageVerdict image log result }
+    ensures { (profile : ProfileValue) (image : Option Initial) (log : List LoggedValue) → IsLogVerdict profile log lawful → IsCoherenceVerdict image log coherent → IsMessageVerdict profile image log result }
 {
     match lawful {
         LogVerdict::Lawful => where_lawful(coherent),
@@ -71,7 +74,7 @@ fn earlier(lawful: LogVerdict, coherent: CoherenceVerdict) -> MessageVerdict
 }
 
 fn where_lawful(coherent: CoherenceVerdict) -> MessageVerdict
-    ensures { (image : Option Initial) (log : List LoggedValue) → IsLogVerdict log LogVerdict.Lawful → IsCoherenceVerdict image log coherent → IsMessageVerdict image log result }
+    ensures { (profile : ProfileValue) (image : Option Initial) (log : List LoggedValue) → IsLogVerdict profile log LogVerdict.Lawful → IsCoherenceVerdict image log coherent → IsMessageVerdict profile image log result }
 {
     match coherent {
         CoherenceVerdict::Coherent => MessageVerdict::Lawful,
@@ -83,7 +86,7 @@ fn where_lawful(coherent: CoherenceVerdict) -> MessageVerdict
 }
 
 fn where_unlawful(rule: LogRule, index: usize, coherent: CoherenceVerdict) -> MessageVerdict
-    ensures { (image : Option Initial) (log : List LoggedValue) → IsLogVerdict log (LogVerdict.Unlawful rule index) → IsCoherenceVerdict image log coherent → IsMessageVerdict image log result }
+    ensures { (profile : ProfileValue) (image : Option Initial) (log : List LoggedValue) → IsLogVerdict profile log (LogVerdict.Unlawful rule index) → IsCoherenceVerdict image log coherent → IsMessageVerdict profile image log result }
 {
     match coherent {
         CoherenceVerdict::Coherent => MessageVerdict::Unlawful {
@@ -98,7 +101,7 @@ fn where_unlawful(rule: LogRule, index: usize, coherent: CoherenceVerdict) -> Me
 }
 
 fn first_of(rule: LogRule, index: usize, breach: Breach, other: usize) -> MessageVerdict
-    ensures { (image : Option Initial) (log : List LoggedValue) → IsLogVerdict log (LogVerdict.Unlawful rule index) → IsCoherenceVerdict image log (CoherenceVerdict.Incoherent breach other) → IsMessageVerdict image log result }
+    ensures { (profile : ProfileValue) (image : Option Initial) (log : List LoggedValue) → IsLogVerdict profile log (LogVerdict.Unlawful rule index) → IsCoherenceVerdict image log (CoherenceVerdict.Incoherent breach other) → IsMessageVerdict profile image log result }
 {
     if other < index {
         return MessageVerdict::Unlawful {
@@ -111,3 +114,8 @@ fn first_of(rule: LogRule, index: usize, breach: Breach, other: usize) -> Messag
         index,
     }
 }
+
+/// What is proved of the messages of every machine makes them lawful by this machine's rules, and by TileLink's.
+pub fn lawful_by_both()
+    ensures { LawfulByBoth }
+{}

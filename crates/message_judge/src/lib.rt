@@ -5,5 +5,6 @@
 mod judging;
 mod verdict;
 
-pub use judging::{judge_ended, judge_messages};
+pub use judging::{judge_ended, judge_messages, lawful_by_both};
+pub use lawful_log::Profile;
 pub use verdict::{MessageBreach, MessageVerdict};

@@ -5,7 +5,7 @@
 use super::traces::Traces;
 use super::{are_alike, changes, plain};
 use anyhow::{Result, bail, ensure};
-use lawful_log::{LogRule, LogVerdict, check_log};
+use lawful_log::{LogRule, LogVerdict, Profile, check_log};
 use std::alloc::Global;
 use std::fs;
 use std::io::Write;
@@ -168,8 +168,13 @@ impl Judged {
 
 // The verdict on a log; it fails where the two bodies answer differently.
 fn judge(alloc: Global, log: &[Logged]) -> Result<LogVerdict> {
-    let verdict = check_log(alloc, log)?;
-    let plain = plain::judge(log);
+    judge_by(alloc, Profile::TileLink, log)?;
+    judge_by(alloc, Profile::Machine, log)
+}
+
+fn judge_by(alloc: Global, profile: Profile, log: &[Logged]) -> Result<LogVerdict> {
+    let verdict = check_log(alloc, profile, log)?;
+    let plain = plain::judge(profile, log);
     are_alike(&verdict, &plain)?;
     Ok(verdict)
 }

@@ -1,6 +1,6 @@
 //! The rules of the lawful log read off the whole log before each entry, by counting in it anew.
 
-use lawful_log::{LogRule, LogVerdict};
+use lawful_log::{LogRule, LogVerdict, Profile};
 use tl_types::{Body, Cap, Change, Grow};
 use trace_recorder::{Direction, Logged};
 
@@ -31,16 +31,16 @@ impl Kind {
 }
 
 /// The first entry that breaks a rule, and the first of the rules that it breaks.
-pub fn judge(log: &[Logged]) -> LogVerdict {
+pub fn judge(profile: Profile, log: &[Logged]) -> LogVerdict {
     for (index, entry) in log.iter().enumerate() {
-        if let Some(rule) = first_broken(&log[..index], entry) {
+        if let Some(rule) = first_broken(profile, &log[..index], entry) {
             return LogVerdict::Unlawful { rule, index };
         }
     }
     LogVerdict::Lawful
 }
 
-fn first_broken(before: &[Logged], entry: &Logged) -> Option<LogRule> {
+fn first_broken(profile: Profile, before: &[Logged], entry: &Logged) -> Option<LogRule> {
     if entry.direction == Direction::Taken {
         return if is_front(before, entry) {
             None
@@ -68,12 +68,17 @@ fn first_broken(before: &[Logged], entry: &Logged) -> Option<LogRule> {
         }
         Kind::Acquire | Kind::ProbeAck if release_open => Some(LogRule::ReleaseAlone),
         Kind::Release if release_open || acquire_open => Some(LogRule::ReleaseAlone),
-        Kind::Grant => broken_by_grant(before, entry, grants_open),
+        Kind::Grant => broken_by_grant(profile, before, entry, grants_open),
         _ => None,
     }
 }
 
-fn broken_by_grant(before: &[Logged], entry: &Logged, grants_open: bool) -> Option<LogRule> {
+fn broken_by_grant(
+    profile: Profile,
+    before: &[Logged],
+    entry: &Logged,
+    grants_open: bool,
+) -> Option<LogRule> {
     let (cap, has_data) = match entry.message.body {
         Body::Grant(cap) => (cap, false),
         Body::GrantData { cap, .. } => (cap, true),
@@ -87,10 +92,12 @@ fn broken_by_grant(before: &[Logged], entry: &Logged, grants_open: bool) -> Opti
     } else {
         Cap::ToT
     };
-    if cap != wanted {
+    let is_enough = profile == Profile::TileLink && cap == Cap::ToT;
+    if cap != wanted && !is_enough {
         return Some(LogRule::Permission);
     }
-    if has_data == (grow == Grow::BtoT && !is_lost(before, entry)) {
+    let has_copy = grow == Grow::BtoT && !is_lost(before, entry);
+    if has_data == has_copy && !(has_data && profile == Profile::TileLink) {
         return Some(LogRule::Data);
     }
     if grants_open || is_open(before, Kind::Probe, Kind::ProbeAck, entry, false) {

@@ -7,9 +7,9 @@ use Rattle.log_text.specs.Laws.{IsVerdict}
 use Rattle.check_command.proofs.messages.judged.Goals as goal
 
 pub returns-then-ended : goal.returns-then-ended
-returns-then-ended c = subst (λ ended. IfOk c.judge_ended.result (IsVerdict ended (memory_told c.args.trace.now.history.image) c.args.trace.now.history.log)) (sym c.if-ended.true)
-    (verdict_on true c.args.trace.now.history (option_copied c.memory_at_start-memory.result) c.log.result.now c.judge_ended.result c.memory_at_start-memory.ensures c.log.ensures c.judge_ended.ensures)
+returns-then-ended c = subst (λ ended. IfOk c.judge_ended.result (IsVerdict ended c.args.profile (memory_told c.args.trace.now.history.image) c.args.trace.now.history.log)) (sym c.if-ended.true)
+    (verdict_on true c.args.profile c.args.trace.now.history (option_copied c.memory_at_start-memory.result) c.log.result.now c.judge_ended.result c.memory_at_start-memory.ensures c.log.ensures c.judge_ended.ensures)
 
 pub returns-else-ended : goal.returns-else-ended
-returns-else-ended c = subst (λ ended. IfOk c.judge_messages.result (IsVerdict ended (memory_told c.args.trace.now.history.image) c.args.trace.now.history.log)) (sym c.if-ended.false)
-    (verdict_on false c.args.trace.now.history (option_copied c.memory_at_start-memory.result) c.log-else-ended.result.now c.judge_messages.result c.memory_at_start-memory.ensures c.log-else-ended.ensures c.judge_messages.ensures)
+returns-else-ended c = subst (λ ended. IfOk c.judge_messages.result (IsVerdict ended c.args.profile (memory_told c.args.trace.now.history.image) c.args.trace.now.history.log)) (sym c.if-ended.false)
+    (verdict_on false c.args.profile c.args.trace.now.history (option_copied c.memory_at_start-memory.result) c.log-else-ended.result.now c.judge_messages.result c.memory_at_start-memory.ensures c.log-else-ended.ensures c.judge_messages.ensures)
