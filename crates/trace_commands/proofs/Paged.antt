@@ -5,7 +5,7 @@ use Rattle.command_files.specs.Status.{status_of}
 use Rattle.command_files.specs.declared.fault.Fault.{Fault}
 use Rattle.command_files.specs.declared.fault.Fault.TheVariants.{CannotWrite, OutOfMemory}
 use Rattle.command_settings.specs.declared.wanted.Replay.{Replay}
-use Rattle.event_stream.specs.declared.strictness.Strictness.TheVariants.{Lenient}
+use Rattle.command_files.specs.TheVariants.{Lenient}
 use Rattle.trace_commands.proofs.Told.{telling_never_misused}
 use Rattle.trace_commands.specs.Pages.{IsPageFault}
 

@@ -5,7 +5,7 @@ use Rattle.command_files.specs.Contents.{Contents}
 use Rattle.command_files.specs.declared.fault.Fault.{Fault}
 use Rattle.command_files.specs.declared.fault.Fault.TheVariants.{CannotWrite, OutOfMemory}
 use Rattle.command_settings.specs.declared.wanted.Replay.{Replay}
-use Rattle.event_stream.specs.declared.strictness.Strictness.TheVariants.{Lenient}
+use Rattle.command_files.specs.TheVariants.{Lenient}
 use Rattle.script_commands.specs.Explaining.{LeavesOfStream}
 use Rattle.text_fields.specs.Writing.{Begins}
 use Rattle.trace_commands.specs.Kinds.{IsHalfTold, IsTellingFault, IsTold}
