@@ -223,7 +223,7 @@ def progress(rvtl, folder):
     journal = os.path.join(folder, "j")
     shown = on_terminal([rvtl, "run", "--raw", "--harts", "8", "--limit", "4000000", "--journal", journal, amos])
     ends, _, note = shown.partition(b"hart 7: run\r\n")
-    is_well = b" events, retired " in ends and b"\r" in ends and note.startswith(b"note: hart 0 hadn't ended when a limit was met")
+    is_well = b" events, retired " in ends and b"\r" in ends and note.startswith(b"note: harts 0, 1, 2, 3, 4, 5, 6 and 7 hadn't ended when a limit was met: --limit")
     tell("progress on a terminal", is_well, shown)
 
 
