@@ -7,6 +7,7 @@ An explain takes the same, and tells below each event what it did. A chart takes
 A run takes a program alone: its harts run side by side, and what happened is kept as a script.
 An explore takes a program alone, and tells every end that the machine can bring it to.
 A check takes a trace and tells whether the memory model allows its order, or whether its messages are lawful.
+A litmus takes litmus tests and answers them as herd7 does; rvtl litmus --help has its arguments.
 
 Example: rvtl replay --raw examples/exit.bin examples/exit.script";
 
