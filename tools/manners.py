@@ -60,9 +60,14 @@ def over_the_program(rvtl, folder):
         words = file.read()
     with open(program, "wb") as file:
         file.write(words)
-    link = os.path.join(folder, "link.bin")
+    link, symlink, other = (os.path.join(folder, it) for it in ("link.bin", "symlink.bin", "other"))
     os.link(program, link)
-    for name, image in [("a journal over the program", program), ("over a link to it", link), ("over standard input", "-")]:
+    os.symlink(program, symlink)
+    os.symlink(folder, other)
+    names = [("a journal over the program", program), ("over a hard link to it", link), ("over a link to it", symlink),
+             ("over `.`", os.path.join(folder, ".", "kept.bin")), ("over another name of its folder", os.path.join(other, "kept.bin")),
+             ("over standard input", "-")]
+    for name, image in names:
         with open(program, "rb") as file:
             ends(name, [rvtl, "run", "--raw", "--journal", program, image], 1,
                  [f"rvtl: {program}: cannot write", "note: this is the program: name another file for --journal"], stdin=file)
