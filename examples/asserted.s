@@ -4,6 +4,8 @@
 # - asserted_unreleased, with ACQUIRED: the flag may leave the store buffer before the message, so it may fail.
 # - asserted_unacquired, with RELEASED: the machine performs loads in order, so it doesn't fail here. RVWMO lets the
 #   message be read before the flag, so there it may.
+# - asserted_alone, with RELEASED, ACQUIRED and ALONE, and asserted_alone_unacquired, without ACQUIRED: the same, but hart 0
+#   doesn't wait. So where the assertion fails both harts have ended, and an outcome shows it.
 
         .include "rvtl.inc"
 
@@ -20,8 +22,8 @@ _start: la      t0, message
         sw      t3, 0(t0)
         when    RELEASED, fence w, w    # else the flag may leave the store buffer before the message
         sw      t3, 0(t1)
-wait:   lw      t4, 0(t2)
-        beqz    t4, wait
+        unless  ALONE, wait: lw t4, 0(t2)
+        unless  ALONE, beqz t4, wait
         exit
 reader: lw      t4, 0(t1)
         beqz    t4, reader
