@@ -2,6 +2,7 @@
 use Rattle.std.proofs.Common.{◌==◌, ℕ, All, List, false, if◌then◌else◌, true}
 use Rattle.std.proofs.lemmas.List.Elements.{All-map, All-weaker}
 use Rattle.elf_loader.specs.Image.{HasWord, Initial}
+use Rattle.image_orderings.specs.Adding.{patch_strengthened, patches_strengthened}
 use Rattle.image_orderings.specs.Forms.{without}
 use Rattle.image_orderings.specs.Programs.{patch_with, patch_without, patches_with, patches_without}
 use Rattle.image_orderings.specs.declared.orderings.ImageOrdering.{ImageOrdering}
@@ -27,3 +28,6 @@ pub inside_with : (image : Initial) (address word : ℕ) (patches : List Patch) 
 inside_with image address word patches h =
     All-map (λ (p : Patch). HasWord image p.address) (patch_with address word) patches
     (All-weaker (λ (p : Patch). HasWord image p.address) (λ (p : Patch). HasWord image (patch_with address word p).address) (stays_with image address word) patches h)
+
+pub inside_strengthened : (image : Initial) (patches : List Patch) → AreInside image patches → AreInside image (patches_strengthened patches)
+inside_strengthened image patches h = All-map (λ (p : Patch). HasWord image p.address) patch_strengthened patches h

@@ -1,3 +1,4 @@
+pub mod Adding
 pub mod Forms
 pub mod Orderings
 pub mod Programs

@@ -12,7 +12,7 @@ use rv32_decode::{
 use std::alloc::{AllocError, Global};
 
 /// `addi x0, x0, 0`.
-const NOP: u32 = 0x0000_0013;
+pub const NOP: u32 = 0x0000_0013;
 
 /// `fence rw, rw`.
 const FULL: u32 = 0x0330_000f;

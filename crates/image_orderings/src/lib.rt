@@ -2,12 +2,14 @@
 //! words replaced.
 #![tactic(auto)]
 
+mod adding;
 mod forms;
 mod orderings;
 mod programs;
 mod replacing;
 
-pub use forms::{is_weaker, strengthened, weaker_words, without};
+pub use adding::{milder_words, patches_strengthened, places_of};
+pub use forms::{NOP, is_weaker, strengthened, weaker_words, without};
 pub use orderings::{ImageOrdering, Part, orderings_of};
 pub use programs::{is_kept, own_patches, patches_with, patches_without, word_in};
 pub use replacing::{Patch, patched};
