@@ -47,8 +47,9 @@ and below it what it added to the trace, each R line with its instruction behind
   O HART NUMBER          and what its hart put out
 and at the end each hart's H line: behind it, what its next step would come to, the words or lines that
 this waits for, and the instruction; of one that stopped, why. An event that changes nothing has its
-E line alone; with --strict the stream ends before it, the status is 1, and standard error tells the line
-and the outcome.
+E line alone, Busy and Releasing with what the message waits for: its line, that line's transaction, and
+which message of which harts. With --strict the stream ends before such an event, the status is 1, and
+standard error tells the line and the outcome.
 Where an ELF file has symbols, the instruction's own address stands before it, and where a branch or
 JAL leads behind it, as the last name at or below and how far behind, in hexadecimal:
   ; <take+0x4> bne t3, zero, 0x8000000c <take>

@@ -95,8 +95,8 @@ line_whole names h action r = go (decoded r.word)
     go None none = retired_as h r 10
     go (Some i) some = absurd (cc some)
 
-events_parts : (p l w o : List ℕ) → ((((p ++ codes "E ") ++ (l ++ 32 ∷ [])) ++ (w ++ 32 ∷ [])) ++ o) ++ 10 ∷ [] ≡ p ++ (codes "E " ++ (l ++ (32 ∷ (w ++ (32 ∷ (o ++ 10 ∷ []))))))
+events_parts : (p l w o : List ℕ) → (((p ++ codes "E ") ++ (l ++ 32 ∷ [])) ++ (w ++ 32 ∷ [])) ++ o ≡ p ++ (codes "E " ++ (l ++ (32 ∷ (w ++ (32 ∷ o)))))
 events_parts p l w o = simp append_assoc
 
-pub event_spelled : (p l o : List ℕ) (e : Event) → ((((p ++ codes "E ") ++ (l ++ 32 ∷ [])) ++ event_ended 32 e) ++ o) ++ 10 ∷ [] ≡ p ++ (codes "E " ++ (l ++ (32 ∷ (unended (event e) ++ (32 ∷ (o ++ 10 ∷ []))))))
-event_spelled p l o e = ap (λ (t : List ℕ). ((((p ++ codes "E ") ++ (l ++ 32 ∷ [])) ++ t) ++ o) ++ 10 ∷ []) (event_as e 32) ∙ events_parts p l (unended (event e)) o
+pub event_spelled : (p l o : List ℕ) (e : Event) → (((p ++ codes "E ") ++ (l ++ 32 ∷ [])) ++ event_ended 32 e) ++ o ≡ p ++ (codes "E " ++ (l ++ (32 ∷ (unended (event e) ++ (32 ∷ o)))))
+event_spelled p l o e = ap (λ (t : List ℕ). (((p ++ codes "E ") ++ (l ++ 32 ∷ [])) ++ t) ++ o) (event_as e 32) ∙ events_parts p l (unended (event e)) o

@@ -1,5 +1,6 @@
 pub mod Outcomes
 pub mod Reports
+pub mod Stalls
 pub mod Naming
 pub mod Accesses
 pub mod Comments

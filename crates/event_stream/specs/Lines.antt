@@ -6,6 +6,7 @@ use Rattle.hart.specs.declared.retired.Retired.{Retired}
 use Rattle.machine_types.specs.declared.event.Event.{Event}
 use Rattle.machine_types.specs.declared.outcome.Outcome.{Outcome}
 use Rattle.machine_model.specs.Events.{hart_of}
+use Rattle.machine_model.specs.Views.{State}
 use Rattle.rv32_decode.specs.Rows.{decoded}
 use Rattle.rv32_decode.specs.declared.instruction.Instr.{Instr}
 use Rattle.rv32_exec.specs.declared.actions.Action.{Action}
@@ -16,6 +17,7 @@ use Rattle.event_stream.specs.Accesses.{accessed}
 use Rattle.event_stream.specs.Naming.{instruction}
 use Rattle.event_stream.specs.Outcomes.{outcome}
 use Rattle.event_stream.specs.Reports.{Report}
+use Rattle.event_stream.specs.Stalls.{stall}
 
 -- a line without the line feed that ends it
 abbrev pub unended : List ℕ → List ℕ
@@ -23,11 +25,11 @@ unended line = take (length line - 1) line
 
 -- the event as its script spells it, behind the number of its line there; and its outcome
 abbrev pub event_text : List ℕ → Event → Outcome → List ℕ
-event_text line e o = codes "E " ++ (line ++ (32 ∷ (unended (script.event e) ++ (32 ∷ (outcome o ++ 10 ∷ [])))))
+event_text line e o = codes "E " ++ (line ++ (32 ∷ (unended (script.event e) ++ (32 ∷ outcome o))))
 
--- lines are counted from 1, and the script's first line is its head
-abbrev pub event_line : ℕ → Event → Outcome → List ℕ
-event_line index e o = event_text (decimal (index + 2)) e o
+-- with what the event waits for in this state; lines are counted from 1, and the script's first line is its head
+abbrev pub event_line : State → ℕ → Event → Outcome → List ℕ
+event_line s index e o = event_text (decimal (index + 2)) e o ++ (stall s e o ++ 10 ∷ [])
 
 -- the line of the script on which the event of this index stands, as far as a number of 64 bits tells it
 abbrev pub script_line_of : ℕ → ℕ
@@ -54,5 +56,5 @@ output_line h n = codes "O " ++ (number 32 h ++ number 10 n)
 -- an event's line, and the lines of what it made longer
 abbrev pub report_lines : List Named → Report → List ℕ
 report_lines names r =
-    event_line r.index r.event r.outcome ++ (flat_map (retired_line names (hart_of r.event) r.action) r.entries
+    event_line r.state r.index r.event r.outcome ++ (flat_map (retired_line names (hart_of r.event) r.action) r.entries
     ++ (flat_map trace.operation r.performed ++ (flat_map trace.logged r.log ++ flat_map (output_line (hart_of r.event)) r.output)))

@@ -17,12 +17,13 @@ use Rattle.trace_text.specs.History.{entries_of}
 use Rattle.event_stream.specs.declared.strictness.Strictness.{Strictness}
 use Rattle.event_stream.specs.declared.strictness.Strictness.TheVariants.{Lenient, Strict}
 
--- an event, counted from 0 in its script, and its outcome; what a step's instruction was to do; and by what it made longer its hart's list of retired instructions, the performed order, the log, and what its hart put out
+-- an event, counted from 0 in its script, and its outcome; what a step's instruction was to do; the state behind it; and by what it made longer its hart's list of retired instructions, the performed order, the log, and what its hart put out
 pub record Report : Type 0 where
   pub index : ℕ
   pub event : Event
   pub outcome : Outcome
   pub action : Option Action
+  pub state : State
   pub entries : List Retired
   pub performed : List OpId
   pub log : List Logged
@@ -54,6 +55,7 @@ report_between old new index e o = record {
   event = e;
   outcome = o;
   action = action_of old e;
+  state = new;
   entries = grown (entries_of old.trace (hart_of e)) (entries_of new.trace (hart_of e));
   performed = grown old.trace.performed new.trace.performed;
   log = grown old.trace.log new.trace.log;

@@ -23,7 +23,7 @@ use Rattle.event_stream.specs.Streams.{lines}
 use Rattle.event_stream.specs.Writing.{IsCut}
 
 abbrev pub report_of : Borrowed → Report
-report_of r = record { index = r.index; event = r.event; outcome = r.outcome; action = r.action; entries = r.entries.now; performed = r.performed.now; log = r.log.now; output = r.output.now }
+report_of r = record { index = r.index; event = r.event; outcome = r.outcome; action = r.action; state = r.machine.now; entries = r.entries.now; performed = r.performed.now; log = r.log.now; output = r.output.now }
 
 -- how long the lists of a hart and of all are, and how many events changed the machine
 abbrev pub lengths_of : State → ℕ → Lengths
@@ -36,6 +36,7 @@ report_behind before action new index e o = record {
   event = e;
   outcome = o;
   action = action;
+  state = new;
   entries = drop before.entries (entries_of new.trace (hart_of e));
   performed = drop before.performed new.trace.performed;
   log = drop before.log new.trace.log;

@@ -13,6 +13,7 @@ mod noting;
 mod report;
 mod report_writing;
 mod spellings;
+mod stalls;
 mod state;
 mod strictness;
 mod waits;

@@ -89,7 +89,7 @@ fn put_records<W: Write>(page: &mut Page, out: &mut W, machine: &Machine, number
     Ok(())
 }
 
-fn grow_name(grow: Grow) -> &'static [u8]
+pub(crate) fn grow_name(grow: Grow) -> &'static [u8]
     ensures value { result.now ≡ words.grow grow }
     ensures len { length result.now ≤ 5 }
 {

@@ -21,14 +21,15 @@ pub struct Lengths {
     pub changes: u32,
 }
 
-/// An event by its index in the script, from 0, its outcome, what the instruction of a step was to do, and what
-/// the event added to the lists.
+/// An event by its index in the script, from 0, its outcome, what the instruction of a step was to do, the
+/// machine behind it, and what it added to the lists.
 #[derive(Clone, Copy)]
 pub struct Report<'a> {
     pub index: usize,
     pub event: Event,
     pub outcome: Outcome,
     pub action: Option<Action>,
+    pub machine: &'a Machine,
     pub entries: &'a [Retired],
     pub performed: &'a [OpId],
     pub log: &'a [Logged],
@@ -141,6 +142,7 @@ impl<'a> Report<'a> {
             event,
             outcome,
             action,
+            machine,
             entries: tail(entries_of(trace, hart), before.entries),
             performed: tail(trace.performed(), before.performed),
             log: tail(trace.log(), before.log),

@@ -1,6 +1,7 @@
 //! Writing the lines of a report.
-ghost use Rattle.std.specs.Prelude.{◌≡◌, ◌+◌, ◌<◌, ◌≤◌, ◌^◌, ◌∷◌, ◌++◌, [], Some, is_some, length};
+ghost use Rattle.std.specs.Prelude.{◌≡◌, ◌+◌, ◌<◌, ◌≤◌, ◌^◌, ◌∷◌, ◌++◌, [], Some, is_some, length, decimal};
 ghost use Rattle.std.specs.List.{flat_map};
+ghost use Rattle.coherent_machine.specs.Machine.{IsReached};
 ghost use Rattle.rv32_decode.specs.Rows.{decoded};
 ghost use Rattle.text_fields.specs.Pages.{HasLineRoom, Spells, size};
 ghost use Rattle.event_stream.specs.Accesses.{accessed};
@@ -13,6 +14,8 @@ use crate::accesses::spell_access;
 use crate::disassembly::Disassembly;
 use crate::report::{Report, hart_of};
 use crate::spellings::spell_outcome;
+use crate::stalls::put_stall;
+use coherent_machine::Machine;
 use elf_symbols::Symbols;
 use hart::Retired;
 use machine_types::{Event, Outcome};
@@ -22,17 +25,43 @@ use std::io::{Result, Write};
 use text_fields::Page;
 use trace_text::{put_log, put_performed, spell_event, spell_retired};
 
-/// An event's line, behind the number of its line in the script.
-fn spell_event_line(page: &mut Page, index: usize, event: Event, outcome: Outcome)
+/// An event behind the number of its line in the script, and its outcome.
+fn spell_told(page: &mut Page, index: usize, event: Event, outcome: Outcome)
     requires room { HasLineRoom page.old }
     requires few { index + 2 < 2 ^ 64 }
-    ensures { page.new ≡ page.old ++ lines.event_line index event outcome }
+    ensures { page.new ≡ page.old ++ lines.event_text (decimal (index + 2)) event outcome }
 {
     page.text(b"E ");
     page.number(index as u64 + 2, b' ');
     spell_event(page, event, b' ');
     spell_outcome(page, outcome);
+}
+
+fn put_line_feed<W: Write>(page: &mut Page, out: &mut W) -> Result<()>
+    ensures { Spells (W.contents out.old) (W.contents out.new) page.old page.new (10 ∷ []) result }
+{
+    page.make_room(out)?;
     page.text(b"\n");
+    Ok(())
+}
+
+/// An event's line.
+fn put_event_line<W: Write>(
+    page: &mut Page,
+    out: &mut W,
+    machine: &Machine,
+    index: usize,
+    event: Event,
+    outcome: Outcome,
+) -> Result<()>
+    requires few { index + 2 < 2 ^ 64 }
+    requires reached { IsReached machine.now }
+    ensures { Spells (W.contents out.old) (W.contents out.new) page.old page.new (lines.event_line machine.now index event outcome) result }
+{
+    page.make_room(out)?;
+    spell_told(page, index, event, outcome);
+    put_stall(page, out, machine, event, outcome)?;
+    put_line_feed(page, out)
 }
 
 /// An R line up to the end of its instruction, and whether there is one: else the line is whole.
@@ -167,13 +196,20 @@ pub(crate) fn put_report<W: Write>(
     report: &Report<'_>,
 ) -> Result<()>
     requires few { report.now.index + 2 < 2 ^ 64 }
+    requires reached { IsReached report.now.machine.now }
     requires kept { AreKept names.now instructions.old }
     ensures lines { Spells (W.contents out.old) (W.contents out.new) page.old page.new (lines.report_lines names.now (report_of report.now)) result }
     ensures kept { AreKept names.now instructions.new }
 {
     let hart = hart_of(report.event);
-    page.make_room(out)?;
-    spell_event_line(page, report.index, report.event, report.outcome);
+    put_event_line(
+        page,
+        out,
+        report.machine,
+        report.index,
+        report.event,
+        report.outcome,
+    )?;
     put_entries(
         page,
         out,

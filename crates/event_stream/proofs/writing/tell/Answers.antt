@@ -1,4 +1,5 @@
-use Rattle.std.proofs.Common.{◌++◌, ap, arith, ◌∙◌, subst}
+use Rattle.std.proofs.Common.{◌++◌, ap, arith, ◌∙◌, subst, sym}
+use Rattle.coherent_machine.specs.Machine.{IsReached}
 use Rattle.machine_model.specs.Views.{State}
 use Rattle.text_fields.specs.Pages.{Paged}
 use Rattle.text_fields.specs.Writing.{Begins}
@@ -30,6 +31,9 @@ returns-then-ends_at-clause-told g c =
     c.in-Ok.ensures.answers
     (ends_is _ _ _ _ _ c.loop-rest.machine c.apply.new.self c.ends_at.ensures c.if-ends_at.true (ap (λ (b : Lengths). b.changes) c.of-before.ensures) (c.changes.ensures ∙ ap (λ (s : State). s.views.changes) c.views.ensures))
     c.ended_by-then-ends_at.ensures
+
+pub put_report-requires-clause-reached : goal.put_report-requires-clause-reached
+put_report-requires-clause-reached g c = subst IsReached (sym (ap (λ (x : Report). x.state) c.behind-report.ensures)) c.apply.ensures.reached
 
 pub returns-in-Err-put_report-clause-told : goal.returns-in-Err-put_report-clause-told
 returns-in-Err-put_report-clause-told g c =
