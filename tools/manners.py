@@ -137,6 +137,13 @@ def memory_ends(rvtl, folder):
     tell("memory ends in some of so many", 4 in statuses, statuses)
 
 
+def no_room_for_a_stack(rvtl):
+    """Where there is no memory for the program's stack, how much that takes is told."""
+    room = lambda: resource.setrlimit(resource.RLIMIT_AS, (8 << 20, 8 << 20))
+    ends("less memory than a stack takes", [rvtl, "--help"], 4,
+         ["rvtl: out of memory", "note: no thread with a stack of 8192 KiB was to be had"], preexec_fn=room)
+
+
 def steering_words(rvtl):
     """What steers a terminal, or ends a line, is escaped in the usage's own messages too."""
     word = "\x1b[2J\n"
@@ -281,6 +288,7 @@ def main():
         ends("a program without an end", [rvtl, "explore", "/dev/zero"], 1,
              ["rvtl: /dev/zero: cannot read", "note: it has more than 268435456 bytes, and no more is read"])
         steering_words(rvtl)
+        no_room_for_a_stack(rvtl)
         behind_a_limit(rvtl, folder)
         another_order(rvtl, folder)
         memory_ends(rvtl, folder)

@@ -6,8 +6,9 @@ usage: tools/refused_in_turn.py [NAME..]      rows (row_10 ..) and commands (che
 Rows 10, 13, 18 and 34 are played by `gate_comparisons` event by event, as whole lists and on a fabric: whichever allocation is
 refused, it goes on and prints the same. A command of `rvtl` on a small file prints what it prints undisturbed, or ends with status 4 and
 `rvtl: out of memory` behind a beginning of it; an exploration may tell fewer outcomes, each a true one, and says `out of memory` in its last line.
-Where the start of a thread is refused in place of an allocation, it says `rvtl: cannot start a thread`, with status 1. Prints a
-line for each row and command with the number of refusals, which is never 0. `rt ci` has to have built the programs.
+Where the start of a hart's thread is refused in place of an allocation, it says `rvtl: cannot start a thread`, with status 1; where that of
+its own, `out of memory` and how large a stack it asked for, with status 4. Prints a line for each row and command with the number of
+refusals, which is never 0. `rt ci` has to have built the programs.
 """
 import os
 import pathlib
@@ -149,7 +150,9 @@ def row_wrong(run, whole):
 
 
 def start_wrong(run, whole):
-    is_told = run.status == 1 and run.err.splitlines()[-1:] == ["rvtl: cannot start a thread"]
+    of_hart = run.status == 1 and run.err.splitlines()[-1:] == ["rvtl: cannot start a thread"]
+    own = ["rvtl: out of memory", "note: no thread with a stack of 8192 KiB was to be had"]
+    is_told = of_hart or run.status == 4 and run.err.splitlines() == own
     return None if is_told or run.is_like(whole) else f"status {run.status}, {run.err[-120:]!r}"
 
 

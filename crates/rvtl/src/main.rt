@@ -40,8 +40,12 @@ fn main(rt: HostRuntime) -> ExitCode {
         },
     );
     let Ok(ended) = started else {
-        let _ = eprintln!(rt; "rvtl: cannot start a thread");
-        return ExitCode::FAILURE;
+        let _ = eprintln!(rt; "rvtl: out of memory");
+        let _ = eprintln!(rt;
+            "note: no thread with a stack of {} KiB was to be had",
+            STACK / 1024
+        );
+        return ExitCode::from(OUT_OF_MEMORY);
     };
     if let Err(error) = &ended {
         let message = match error.kind() {
