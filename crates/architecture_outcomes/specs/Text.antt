@@ -61,6 +61,7 @@ reach_text reach.OutOfMemory window = codes ", out of memory"
 abbrev pub machine_text : Extent → ℕ → List ℕ
 machine_text extent.Complete states = codes ""
 machine_text extent.LimitMet states = codes ", this machine incomplete: " ++ (decimal states ++ codes " states met")
+machine_text (extent.Ended ending) states = codes ", this machine incomplete: ended"
 machine_text extent.OutOfMemory states = codes ", this machine incomplete: out of memory"
 
 abbrev pub count_text : (outcomes states : ℕ) → List ℕ

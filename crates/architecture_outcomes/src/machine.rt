@@ -13,7 +13,7 @@ use crate::outcome::{Outcome, Way};
 use elf_loader::Image;
 use explorer::{Exploration, Exploring, Found, explore};
 use machine_types::Config;
-use state_search::{Extent, Watch};
+use state_search::{Extent, Throughout, Watch};
 use std::alloc::{AllocError, Global};
 
 /// The outcomes to which the machine comes, and how far it was searched.
@@ -48,7 +48,7 @@ pub(crate) fn search_machine<W: Watch>(
         extent,
         states,
         ..
-    } = explore(alloc, image, config, addresses, exploring, watch)?;
+    } = explore(alloc, image, config, addresses, exploring, watch, &Throughout)?;
     Ok(Machine {
         outcomes: of_machine(alloc, outcomes)?,
         extent,

@@ -150,6 +150,7 @@ fn spell_machine(into: &mut Vec<u8>, extent: Extent, states: usize) -> Result<()
             spell_number(into, states as u64)?;
             into.extend_from_slice(b" states met")?;
         }
+        Extent::Ended(_) => into.extend_from_slice(b", this machine incomplete: ended")?,
         Extent::OutOfMemory => {
             into.extend_from_slice(b", this machine incomplete: out of memory")?;
         }

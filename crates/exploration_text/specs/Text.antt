@@ -5,7 +5,9 @@ use Rattle.explorer.specs.declared.exploration.Stuck.{Stuck}
 use Rattle.explorer.specs.Shown.{HartEnd}
 use Rattle.hart_ends.specs.Ends.{hart_text}
 use Rattle.state_search.specs.declared.findings.Extent.{Extent}
-use Rattle.state_search.specs.declared.findings.Extent.TheVariants.{Complete, LimitMet, OutOfMemory}
+use Rattle.state_search.specs.declared.findings.Extent.TheVariants.{Complete, LimitMet, Ended, OutOfMemory}
+use Rattle.state_search.specs.declared.until.Ending.{Ending}
+use Rattle.state_search.specs.declared.until.Ending.TheVariants.{First, Time}
 
 -- ---- harts
 
@@ -27,7 +29,13 @@ abbrev pub stuck_line : Option Stuck → List ℕ
 stuck_line None = []
 stuck_line (Some stuck) = codes "stuck: " ++ (decimal stuck.states ++ codes " states from which no schedule ends\n")
 
+-- why it ended before all states were found
+abbrev pub ending_text : Ending → List ℕ
+ending_text First = codes "incomplete: ended at the first, "
+ending_text Time = codes "incomplete: ended by --seconds, "
+
 abbrev pub last_line : Extent → (outcomes failures states : ℕ) → List ℕ
 last_line Complete outcomes failures states = codes "complete: " ++ (decimal outcomes ++ (codes " outcomes, " ++ (failures_part failures ++ (decimal states ++ codes " states\n"))))
 last_line LimitMet outcomes failures states = codes "incomplete: " ++ (decimal states ++ codes " states met\n")
+last_line (Ended ending) outcomes failures states = ending_text ending ++ (decimal states ++ codes " states met\n")
 last_line OutOfMemory outcomes failures states = codes "incomplete: out of memory\n"

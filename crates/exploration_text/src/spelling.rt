@@ -9,7 +9,7 @@ use explorer::Stuck;
 use explorer::flat_model::HartResult;
 use hart_ends::put_end;
 use itoa::Buffer;
-use state_search::Extent;
+use state_search::{Ending, Extent};
 use std::alloc::{AllocError, Global};
 
 pub(crate) fn spell_number(into: &mut Vec<u8>, number: u64) -> Result<(), AllocError>
@@ -65,6 +65,16 @@ pub(crate) fn spell_stuck(into: &mut Vec<u8>, stuck: &Option<Stuck>) -> Result<(
     Ok(())
 }
 
+fn spell_ending(into: &mut Vec<u8>, ending: Ending) -> Result<(), AllocError>
+    ensures { OnOk result (into.new.items ≡ into.old.items ++ text.ending_text ending) }
+{
+    match ending {
+        Ending::First => into.extend_from_slice(b"incomplete: ended at the first, ")?,
+        Ending::Time => into.extend_from_slice(b"incomplete: ended by --seconds, ")?,
+    }
+    Ok(())
+}
+
 pub(crate) fn spell_extent(
     into: &mut Vec<u8>,
     extent: Extent,
@@ -85,6 +95,11 @@ pub(crate) fn spell_extent(
         }
         Extent::LimitMet => {
             into.extend_from_slice(b"incomplete: ")?;
+            spell_number(into, states as u64)?;
+            into.extend_from_slice(b" states met\n")?;
+        }
+        Extent::Ended(ending) => {
+            spell_ending(into, ending)?;
             spell_number(into, states as u64)?;
             into.extend_from_slice(b" states met\n")?;
         }

@@ -27,7 +27,7 @@ use Rattle.machine_model.specs.Views.{Node}
 use Rattle.machine_types.specs.declared.config.Config.{Config}
 use Rattle.explorer.specs.Schedules.{led}
 use Rattle.state_search.specs.declared.findings.Extent.{Extent}
-use Rattle.state_search.specs.declared.findings.Extent.TheVariants.{Complete, LimitMet, OutOfMemory}
+use Rattle.state_search.specs.declared.findings.Extent.TheVariants.{Complete, LimitMet, Ended, OutOfMemory}
 
 -- ---- where one has stopped there is a failure
 
@@ -115,6 +115,7 @@ is_none_of (Some s) is = absurd (false≢true (sym is))
 is_complete_of : (e : Extent) → not (is_complete e) ≡ false → e ≡ Complete
 is_complete_of Complete is = refl
 is_complete_of LimitMet is = absurd (false≢true (sym is))
+is_complete_of (Ended ending) is = absurd (false≢true (sym is))
 is_complete_of OutOfMemory is = absurd (false≢true (sym is))
 
 pub passing_is_safe : PassingIsSafe

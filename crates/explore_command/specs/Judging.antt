@@ -11,7 +11,7 @@ use Rattle.flat_model.specs.Shown.{HartEnd}
 use Rattle.hart.specs.declared.status.Status.{Status}
 use Rattle.hart.specs.declared.status.Status.TheVariants.{Exited, Running, Stopped}
 use Rattle.state_search.specs.declared.findings.Extent.{Extent}
-use Rattle.state_search.specs.declared.findings.Extent.TheVariants.{Complete, LimitMet, OutOfMemory}
+use Rattle.state_search.specs.declared.findings.Extent.TheVariants.{Complete, LimitMet, Ended, OutOfMemory}
 use Rattle.text_fields.specs.Writing.{Begins}
 
 -- ---- what else a search may not come to
@@ -33,6 +33,7 @@ have_failure = list_any has_stopped
 abbrev pub is_complete : Extent → Bool
 is_complete Complete = true
 is_complete LimitMet = false
+is_complete (Ended ending) = false
 is_complete OutOfMemory = false
 
 abbrev pub line_if : Bool → List ℕ → List ℕ

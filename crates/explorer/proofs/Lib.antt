@@ -8,3 +8,4 @@ mod Performed
 mod Ends
 mod Counting
 mod Noted
+mod First

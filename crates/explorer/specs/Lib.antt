@@ -8,6 +8,7 @@ pub mod Visited
 pub mod Told
 pub mod Failures
 pub mod Sampled
+pub mod Sought
 pub use Rattle.schedules.specs.Schedules
 pub use Rattle.flat_exploration.specs.Outcomes as FlatExplorationOutcomes
 pub use Rattle.flat_exploration.specs.declared.failure.Stop

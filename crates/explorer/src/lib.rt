@@ -14,14 +14,17 @@ mod found;
 mod ranks;
 mod samples;
 mod scripts;
+mod seeking;
 mod stuck;
 
 pub use effort::Exploring;
 pub use exploration::{Exploration, Stuck};
 pub use exploring::explore;
 pub use flat_exploration;
+pub use flat_machine::Outcome;
 pub use flat_model;
 pub use found::{Found, FoundFailure, Realisation};
 pub use performed_words;
 pub use ranks::compare;
 pub use samples::{SampleWatch, Sampled, Sampling, sample_ends};
+pub use seeking::Seek;

@@ -6,7 +6,7 @@ use elf_loader::Image;
 use flat_machine::{FlatMachine, Outcome, Tables};
 use hart::Status;
 use machine_types::MemoryModel;
-use state_search::{Unwatched, search};
+use state_search::{Throughout, Unwatched, search};
 use std::alloc::{AllocError, Global};
 use std::process::Abort;
 use std::test::Fail;
@@ -45,7 +45,7 @@ fn found_by(
     machine: &FlatMachine<'_>,
     ends: &[Drained],
 ) -> Result<Found, AllocError> {
-    let findings = search(machine, Tables::new(alloc), alloc, 1000, &Unwatched)?;
+    let findings = search(machine, Tables::new(alloc), alloc, 1000, &Unwatched, &Throughout)?;
     Ok(Found {
         extent: findings.extent,
         has_outcomes: are_ends(findings.outcomes.outcomes.as_slice(), ends),

@@ -7,7 +7,7 @@ use crate::programs::{
 use crate::same::same;
 use elf_loader::Image;
 use flat_machine::{FlatMachine, Outcome, Tables};
-use state_search::{Extent, Unwatched, search};
+use state_search::{Extent, Throughout, Unwatched, search};
 use std::alloc::{AllocError, Global};
 use std::process::Abort;
 use std::test::Fail;
@@ -47,7 +47,7 @@ fn found_by(
     machine: &FlatMachine<'_>,
     outcomes: &[&[End]],
 ) -> Result<Found, AllocError> {
-    let findings = search(machine, Tables::new(alloc), alloc, 1000, &Unwatched)?;
+    let findings = search(machine, Tables::new(alloc), alloc, 1000, &Unwatched, &Throughout)?;
     Ok(Found {
         extent: findings.extent,
         has_outcomes: are_outcomes(findings.outcomes.outcomes.as_slice(), outcomes),

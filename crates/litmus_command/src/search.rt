@@ -9,7 +9,7 @@ use crate::wanted::Wanted;
 use architecture_outcomes::explorer::{Exploration, Exploring, Found, explore};
 use architecture_outcomes::window_search::Reach;
 use architecture_outcomes::{Outcome, Way, explore_architecture};
-use state_search::Unwatched;
+use state_search::{Throughout, Unwatched};
 use std::alloc::{AllocError, Global};
 use std::mem;
 
@@ -59,7 +59,7 @@ fn search_machine(
         outcomes,
         extent,
         ..
-    } = explore(alloc, image, *config, addresses, exploring, &Unwatched)?;
+    } = explore(alloc, image, *config, addresses, exploring, &Unwatched, &Throughout)?;
     let has_machine = extent.is_complete();
     Ok(Findings {
         outcomes: of_machine(alloc, outcomes)?,

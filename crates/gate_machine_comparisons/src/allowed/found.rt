@@ -5,7 +5,7 @@ use elf_loader::Image;
 use explorer::{Exploring, Found, compare, explore};
 use flat_model::HartResult;
 use machine_types::{Config, MemoryModel};
-use state_search::Unwatched;
+use state_search::{Throughout, Unwatched};
 use std::alloc::Global;
 use tl_types::LineSize;
 use window_search::{Reach, search};
@@ -51,7 +51,7 @@ pub fn allowed(alloc: Global, image: &Image, config: Config) -> Result<Vec<Witne
         limit: STATES,
         shortened: false,
     };
-    let machine = explore(alloc, image, config, &[], exploring, &Unwatched)?;
+    let machine = explore(alloc, image, config, &[], exploring, &Unwatched, &Throughout)?;
     ensure!(
         machine.extent.is_complete(),
         "{model:?}: the machine's limit is met"

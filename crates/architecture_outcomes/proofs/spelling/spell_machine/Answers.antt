@@ -12,3 +12,7 @@ returns-in_ok-extend_from_slice-in-LimitMet-2 c =
 pub returns-in_ok-extend_from_slice-in-OutOfMemory : goal.returns-in_ok-extend_from_slice-in-OutOfMemory
 returns-in_ok-extend_from_slice-in-OutOfMemory c =
     c.in_ok-extend_from_slice-in-OutOfMemory.ensures.items ∙ ap (λ (e : Extent). c.args.into.now.items ++ machine_text e c.args.states) (sym c.in-OutOfMemory.is)
+
+pub returns-in_ok-extend_from_slice-in-Ended : goal.returns-in_ok-extend_from_slice-in-Ended
+returns-in_ok-extend_from_slice-in-Ended c =
+    c.in_ok-extend_from_slice-in-Ended.ensures.items ∙ ap (λ (e : Extent). c.args.into.now.items ++ machine_text e c.args.states) (sym c.in-Ended.is)
