@@ -1,5 +1,5 @@
 -- What the program's words ask for, as the kit reads the words for the program's usage.
-use Rattle.std.specs.Prelude.{ℕ, ◌≡◌, ◌≢◌, ◌==◌, ◌<◌, ◌≤◌, ◌∷◌, ◌||◌, ◌⊎◌, [], Bool, true, false, IsSomeAnd, List, None, Option, Some, codes, if◌then◌else◌, map, option_map, unwrap_or}
+use Rattle.std.specs.Prelude.{ℕ, ◌≡◌, ◌≢◌, ◌==◌, ◌<◌, ◌≤◌, ◌∷◌, ◌&&◌, ◌||◌, ◌⊎◌, [], Bool, true, false, IsSomeAnd, List, None, Option, Some, codes, if◌then◌else◌, is_some, map, not, option_map, unwrap_or}
 use Rattle.std.specs.Borrow.{Bor}
 use Rattle.std.specs.List.{list_all, list_any, slice_split}
 use Rattle.std.specs.Str.{bytes_eq}
@@ -100,6 +100,7 @@ pub record IsExploreMeant (rows : List Row) (explore : Explore) : Type 0 where
   pub machine : IsMachineMeant rows explore.machine
   pub states : IsNumberIn (codes "states") least_limit most_limit rows explore.states
   pub scripts : IsOptional (codes "scripts") rows explore.scripts
+  pub whole : IsFlag (codes "whole") rows explore.whole
   pub allow : IsOptional (codes "allow") rows explore.allow
   pub fail_on : IsOptional (codes "fail-on") rows explore.fail_on
   pub sample : IsNumberIn (codes "sample") 0 most_limit rows explore.sample
@@ -179,6 +180,10 @@ is_condition word = bytes_eq word (codes "failure") || (bytes_eq word (codes "st
 
 abbrev pub are_conditions : Text → Bool
 are_conditions list = list_all is_condition (words_in list)
+
+-- scripts are to be written, and what their outcomes don't need is to be left out of them
+abbrev pub shortens : Explore → Bool
+shortens explore = is_some explore.scripts && not explore.whole
 
 -- random runs of the machine are asked for, and what the memory model allows: one of them has to be left out
 abbrev pub IsTwofold : Explore → Type 0

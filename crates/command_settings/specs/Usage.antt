@@ -131,6 +131,7 @@ abbrev pub search_arguments : List Argument
 search_arguments =
     number (codes "states") (codes "4000000") least_limit most_limit
     ∷ optional (codes "scripts")
+    ∷ flag (codes "whole")
     ∷ optional (codes "allow")
     ∷ optional (codes "fail-on")
     ∷ []

@@ -211,6 +211,7 @@ fn with_search<'a>(
 {
     let command = add_arg(command, states(alloc));
     let command = add_arg(command, scripts(alloc));
+    let command = add_arg(command, whole(alloc));
     let command = add_arg(command, allow(alloc));
     add_arg(command, fail_on(alloc))
 }
@@ -381,6 +382,17 @@ fn scripts<'a>(alloc: Global) -> Arg<'a>
     ensures local { result.global ≡ false }
 {
     optional(alloc, "scripts", "FOLDER", SCRIPTS_HELP)
+}
+
+fn whole<'a>(alloc: Global) -> Arg<'a>
+    ensures rule { rule_of result ≡ flag_rule (codes "whole") }
+    ensures local { result.global ≡ false }
+{
+    flag(
+        alloc,
+        "whole",
+        "with --scripts, keep the events that an outcome doesn't need, as what else happened in a random run",
+    )
 }
 
 fn allow<'a>(alloc: Global) -> Arg<'a>

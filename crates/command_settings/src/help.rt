@@ -136,6 +136,7 @@ no store waits:
   1  hart 0: exit 0   hart 1: exit 0   counter = 0x00000002
 With --scripts, events that an outcome doesn't need are left out of its script. At most 1,000,000 events
 are played to find them, and 40,000,000 for all outcomes and failures (of random runs, 1,000,000 for each).
+With --whole they stay: all that happened on the way there, as a race in a random run that its end doesn't need.
 The machine carries loads out as they retire, so that what a missing fence between two loads allows is
 not among the outcomes. With --architecture it is: behind each outcome stands whether this machine shows
 it, or the memory model alone allows it; its words are those behind all operations. It doesn't look for states
@@ -144,7 +145,8 @@ from which no schedule ends. The last line is
 or incomplete: and the limit that was met. With --sample, random runs are made and counted instead, each of
 at most 1,000,000 tried events, and the last line is sampled: RUNS runs, not complete; --architecture or
 --show don't go with it.
---seed says nothing without --sample, --window nothing without --architecture, --states nothing with --sample.
+--seed says nothing without --sample, --whole nothing without --scripts, --window nothing without --architecture,
+--states nothing with --sample.
 
 Example: rvtl explore --harts 2 examples/dekker.elf";
 

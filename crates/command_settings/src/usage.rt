@@ -227,6 +227,7 @@ fn explore_of<'a>(matches: &ArgMatches<'a>) -> Option<Explore<'a>>
         machine: machine_of(matches)?,
         states: number_of(matches, "states")?,
         scripts: matches.get_str("scripts"),
+        whole: matches.get_flag("whole"),
         allow: matches.get_str("allow"),
         fail_on: matches.get_str("fail-on"),
         sample: number_of(matches, "sample")?,

@@ -1,7 +1,7 @@
 //! What the words of the command line ask for.
 
 ghost use Rattle.std.specs.Prelude.{◌↔◌, ◌≡◌, IsSome, IsTrue};
-ghost use Rattle.command_settings.specs.Settings.{AreConflicting, HasConflict, HasNoRules, IsBlind, IsTwofold, IsUnknown, are_conditions, asks_tilelink, has_word, is_condition, is_profile, lists};
+ghost use Rattle.command_settings.specs.Settings.{AreConflicting, HasConflict, HasNoRules, IsBlind, IsTwofold, IsUnknown, are_conditions, asks_tilelink, has_word, is_condition, is_profile, lists, shortens};
 
 use clap::error::ErrorKind;
 use machine_types::MemoryModel;
@@ -91,6 +91,8 @@ pub struct Explore<'a> {
     pub states: u32,
     /// The folder into which a script for each outcome is written.
     pub scripts: Option<&'a str>,
+    /// A script keeps the events that its outcome doesn't need.
+    pub whole: bool,
     /// The file with the outcomes that are allowed.
     pub allow: Option<&'a str>,
     /// What the search may not come to: `failure`, `stuck` or `incomplete`, with a comma between each two.
@@ -115,6 +117,13 @@ impl Explore<'_> {
             Some(list) => has_word(list, condition),
             None => false,
         }
+    }
+
+    /// Whether scripts are to be written, without the events that their outcomes don't need.
+    pub fn shortens(&self) -> bool
+        ensures { result ≡ shortens self.now }
+    {
+        self.scripts.is_some() && !self.whole
     }
 
     /// Whether random runs are asked for, and a search of the memory model.

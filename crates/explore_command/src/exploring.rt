@@ -85,7 +85,7 @@ fn found_in<P: Progress>(
     let watch = Telling { progress };
     let exploring = Exploring {
         limit: wanted.states,
-        shortened: wanted.scripts.is_some(),
+        shortened: wanted.shortens(),
     };
     let found = explore(alloc, &asked.image, asked.config, &[], exploring, &watch);
     progress.end();

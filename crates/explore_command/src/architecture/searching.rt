@@ -106,7 +106,7 @@ fn found_under<P: Progress>(
     let watch = Telling { progress };
     let exploring = Exploring {
         limit: wanted.states,
-        shortened: wanted.scripts.is_some(),
+        shortened: wanted.shortens(),
     };
     let found = explore_architecture(alloc, image, config, addresses, window, exploring, &watch);
     progress.end();

@@ -84,7 +84,7 @@ fn runs_of<P: Progress>(
     let sampling = Sampling {
         runs: u64::from(runs),
         seed: u64::from(seed),
-        shortened: wanted.scripts.is_some(),
+        shortened: wanted.shortens(),
     };
     let sampled = sample_ends(alloc, &asked.image, asked.config, sampling, &watch);
     progress.end();

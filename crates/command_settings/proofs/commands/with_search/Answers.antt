@@ -4,5 +4,6 @@ pub returns : goal.returns
 returns c = λ app names is.
     let states_is = c.add_arg-command.ensures app _ is c.states.ensures.rule c.states.ensures.local in
     let scripts_is = c.add_arg-command-2.ensures _ _ states_is c.scripts.ensures.rule c.scripts.ensures.local in
-    let allow_is = c.add_arg-command-3.ensures _ _ scripts_is c.allow.ensures.rule c.allow.ensures.local in
+    let whole_is = c.add_arg-command-3.ensures _ _ scripts_is c.whole.ensures.rule c.whole.ensures.local in
+    let allow_is = c.add_arg-command-4.ensures _ _ whole_is c.allow.ensures.rule c.allow.ensures.local in
     c.add_arg.ensures _ _ allow_is c.fail_on.ensures.rule c.fail_on.ensures.local
