@@ -18,6 +18,7 @@ use Rattle.command_line.specs.Telling.{LeavesOf}
 use Rattle.command_settings.specs.declared.wanted.Check.{Check as Judging}
 use Rattle.command_settings.specs.declared.wanted.Explain.{Explain as Telling}
 use Rattle.command_settings.specs.declared.wanted.Explore.{Explore as Sought}
+use Rattle.command_settings.specs.declared.wanted.Fences.{Fences as Audited}
 use Rattle.command_settings.specs.declared.wanted.Settings.{Settings}
 use Rattle.command_settings.specs.declared.wanted.Settings.TheVariants.{Chart, Check, Explain, Explore, Fences, Page, Replay, Run, Show}
 use Rattle.command_settings.specs.declared.wanted.Show.{Show as Shown}
@@ -100,6 +101,11 @@ pub explore_outside : (wanted : Settings) (explore : Sought) (r : Result Judgeme
 explore_outside wanted explore (Ok judgement) is outside = tt
 explore_outside wanted explore (Err fault) is outside = λ out. as_told fault Configuration (outside (subst IsOutOfRange is out)) refl
 
+pub fences_outside : (wanted : Settings) (fences : Audited) (r : Result Judgement Fault) → wanted ≡ Fences fences → (IsOutside fences.machine → r ≡ Err Configuration)
+    → IfErr r (λ fault. IsOutOfRange wanted → status_of fault ≡ 2)
+fences_outside wanted fences (Ok judgement) is outside = tt
+fences_outside wanted fences (Err fault) is outside = λ out. as_told fault Configuration (outside (subst IsOutOfRange is out)) refl
+
 pub show_outside : (wanted : Settings) (show : Shown) (r : Result Judgement Fault) → wanted ≡ Show show → (IsOutside show.explore.machine → (r ≡ Err Configuration) ⊎ ShowsElsewhere show.explore.architecture show.explore)
     → (ShowsElsewhere show.explore.architecture show.explore → (word : Name) × IsFirstOf show.words.items word × (r ≡ Err (CannotShow word Elsewhere))) → IfErr r (λ fault. IsOutOfRange wanted → status_of fault ≡ 2)
 show_outside wanted show (Ok judgement) is outside elsewhere = tt
@@ -123,6 +129,10 @@ chart_inside (Some word) place named none = let bad : Some named.0 ≡ None = sy
 pub explore_inside : (wanted : Settings) (explore : Sought) (r : Result Judgement Fault) → wanted ≡ Explore explore → (IsOutside explore.machine → r ≡ Err Configuration) → IfOk r (λ _. ¬ IsOutOfRange wanted)
 explore_inside wanted explore (Ok judgement) is outside = λ out. let bad = outside (subst IsOutOfRange is out) in cc
 explore_inside wanted explore (Err fault) is outside = tt
+
+pub fences_inside : (wanted : Settings) (fences : Audited) (r : Result Judgement Fault) → wanted ≡ Fences fences → (IsOutside fences.machine → r ≡ Err Configuration) → IfOk r (λ _. ¬ IsOutOfRange wanted)
+fences_inside wanted fences (Ok judgement) is outside = λ out. let bad = outside (subst IsOutOfRange is out) in cc
+fences_inside wanted fences (Err fault) is outside = tt
 
 pub show_inside : (wanted : Settings) (show : Shown) (r : Result Judgement Fault) → wanted ≡ Show show → (IsOutside show.explore.machine → (r ≡ Err Configuration) ⊎ ShowsElsewhere show.explore.architecture show.explore)
     → (ShowsElsewhere show.explore.architecture show.explore → (word : Name) × IsFirstOf show.words.items word × (r ≡ Err (CannotShow word Elsewhere))) → IfOk r (λ _. ¬ IsOutOfRange wanted)

@@ -112,7 +112,7 @@ IsDone held left old new (Explore explore) = ExploreCame explore.architecture (n
 IsDone held left old new (Show show) = ShowCame show.explore.architecture Allowed held left show old new
 IsDone held left old new (Chart chart) = IsCharted held chart.replay chart.line old new
 IsDone held left old new (Page replay) = IsPaged held replay old new
-IsDone held left old new (Fences fences) = IsAuditTold held fences old new
+IsDone held left old new (Fences fences) = IsAuditTold held fences Allowed old new
 IsDone held left old new (Check check) = IsClean check.messages held check old new
 
 -- a check puts nothing on standard error; of what it notes of messages that aren't lawful it is not said
@@ -152,7 +152,7 @@ IsFaulty held left old new (Explore explore) = ExploreCame explore.architecture 
 IsFaulty held left old new (Show show) = ShowCame show.explore.architecture NotAllowed held left show old new
 IsFaulty held left old new (Chart chart) = ⊥
 IsFaulty held left old new (Page replay) = ⊥
-IsFaulty held left old new (Fences fences) = ⊥
+IsFaulty held left old new (Fences fences) = IsAuditTold held fences NotAllowed old new
 IsFaulty held left old new (Check check) = IsUnclean check.messages held check old new
 
 -- what the settings name was done, or shown not to be legal

@@ -82,10 +82,7 @@ pub(crate) fn carry_out<
         }
         Settings::Explore(explore) => explored(alloc, files, explore, out, err, progress),
         Settings::Show(show) => shown(alloc, files, &show, out, err, progress),
-        Settings::Fences(fences) => {
-            fences_files(alloc, files, fences, out, progress)?;
-            Ok(Judgement::Allowed)
-        }
+        Settings::Fences(fences) => fences_files(alloc, files, fences, out, progress),
         Settings::Check(check) => checked(alloc, files, check, out, err),
     }
 }

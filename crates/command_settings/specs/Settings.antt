@@ -115,6 +115,7 @@ pub record IsFencesMeant (rows : List Row) (fences : Fences) : Type 0 where
   pub machine : IsMachineMeant rows fences.machine
   pub states : IsNumberIn (codes "states") least_limit most_limit rows fences.states
   pub window : IsNumberIn (codes "window") least_window most_window rows fences.window
+  pub allow : IsOptional (codes "allow") rows fences.allow
   pub image : IsText (codes "IMAGE") rows fences.image.now
 
 -- the arguments of `check` have these texts

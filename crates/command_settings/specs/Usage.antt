@@ -156,13 +156,14 @@ abbrev pub explore_arguments : List Argument
 explore_arguments =
     flag (codes "raw") ∷ machine_arguments ++ search_arguments ++ sample_arguments ++ window_arguments ++ repeated (codes "show") ∷ file (codes "IMAGE") ∷ []
 
--- `[--raw]`, those of a machine, and `[--states LIMIT] [--window N] IMAGE`
+-- `[--raw]`, those of a machine, and `[--states LIMIT] [--window N] [--allow FILE] IMAGE`
 abbrev pub fences_arguments : List Argument
 fences_arguments =
     flag (codes "raw")
     ∷ machine_arguments
     ++ number (codes "states") (codes "4000000") least_limit most_limit
     ∷ number (codes "window") (codes "16") least_window most_window
+    ∷ optional (codes "allow")
     ∷ file (codes "IMAGE")
     ∷ []
 

@@ -151,6 +151,7 @@ fn fences_command<'a>(alloc: Global, models: &'a [&'a str]) -> Result<Command<'a
     let command = with_machine(alloc, models, command);
     let command = add_arg(command, states(alloc));
     let command = add_arg(command, window(alloc));
+    let command = add_arg(command, allow(alloc));
     add_arg(command, image(alloc))
 }
 

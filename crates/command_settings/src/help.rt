@@ -163,8 +163,14 @@ The line behind them tells orderings that are enough together: from all, one aft
 addresses, and then each FENCE made weaker, where the outcomes stayed the same; none of those told can be
 left out. Another order may leave others. The last line is
   searched: N orderings, P programs, M outcomes of the program as it is
-or undecided: the program as it is, and the bound that its search met. A word of data that looks like such an
-instruction counts as one. What is told holds of so many harts, and of this program's own data.
+or undecided: the program as it is, and the bound that its search met. With --allow it is asked of each program
+that all its outcomes are in the file. Where one of the program as it is isn't, the status is 3, and told are
+  not allowed: OUTCOME            the first that isn't in the file
+  missing: PC OLD -> NEW          each word that has to order more for no such outcome to come: a FENCE, an LR,
+                                  SC or AMO, or a nop (addi x0, x0, 0), which may become a FENCE
+or that not all of these together are enough. None of those told can be left out.
+A word of data that looks like such an instruction counts as one. What is told holds of so many harts, and of
+this program's own data.
 
 Example: rvtl fences --harts 2 examples/mcs_lock.elf";
 
@@ -175,7 +181,7 @@ pub(crate) const SCRIPTS_HELP: &str =
     "the folder, which has to exist, to write outcome-1.script .., failure-1.script .. and stuck.script into, each for replay; and outcome-1.trace .., each for check, of outcomes that this machine wasn't found to show. Other files there stay, also those of an earlier search";
 
 pub(crate) const ALLOW_HELP: &str =
-    "the file with the allowed outcomes, a line each as printed, with or without its number, and with a * for any number in it; where another is found its number is told and the status is 3";
+    "the file with the allowed outcomes, a line each as printed, with or without its number, and with a * for any number in it; where another is found it is told and the status is 3";
 
 pub(crate) const FAIL_ON_HELP: &str =
     "what the search may not come to, with a comma between each two: failure (a hart stopped, whatever the others do then; with --architecture or --sample only in an outcome), stuck (from some state no schedule ends), incomplete (not all was searched); where it comes to one it is told and the status is 3";

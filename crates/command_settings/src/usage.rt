@@ -248,6 +248,7 @@ fn fences_of<'a>(matches: &ArgMatches<'a>) -> Option<Fences<'a>>
         machine: machine_of(matches)?,
         states: number_of(matches, "states")?,
         window: number_of(matches, "window")?,
+        allow: matches.get_str("allow"),
         image: matches.get_str("IMAGE")?,
     })
 }

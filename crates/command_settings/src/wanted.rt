@@ -205,6 +205,8 @@ pub struct Fences<'a> {
     pub states: u32,
     /// How many operations of a hart may wait at a time: 1 to 64.
     pub window: u32,
+    /// The file with the outcomes that are allowed, in place of those of the program as it is.
+    pub allow: Option<&'a str>,
     pub image: &'a str,
 }
 

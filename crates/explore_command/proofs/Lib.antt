@@ -1,8 +1,6 @@
 pub mod Explored
 pub mod Faults
 pub mod Kept
-pub mod Fitting
-pub mod Lines
 pub mod Refused
 mod Runs
 pub mod Asking

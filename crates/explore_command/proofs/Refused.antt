@@ -6,7 +6,7 @@ use Rattle.std.specs.Io.KnownBytes.{Appends}
 use Rattle.command_files.specs.Faults.{Name}
 use Rattle.command_files.specs.Contents.{Contents}
 use Rattle.command_files.specs.declared.fault.Fault.{Fault}
-use Rattle.explore_command.specs.Allowing.{is_allowed_line, without_number}
+use Rattle.allowed_outcomes.specs.Allowing.{is_allowed_line, without_number}
 use Rattle.explore_command.specs.Exploring.{IsAllowFile}
 use Rattle.explore_command.specs.Judging.{HaveRefusals, IsToldBy, are_allowed, are_allowed_lines, judgement_of_lines, refusal_line, refusal_lines, refusals}
 use Rattle.explore_command.specs.declared.judging.Judgement.{Judgement}

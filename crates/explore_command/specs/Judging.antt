@@ -4,7 +4,7 @@ use Rattle.std.specs.List.{list_all, list_any}
 use Rattle.command_files.specs.Faults.{Name}
 use Rattle.command_files.specs.Contents.{Contents, HoldsBytes}
 use Rattle.command_settings.specs.Settings.{lists}
-use Rattle.explore_command.specs.Allowing.{is_allowed_line, without_number}
+use Rattle.allowed_outcomes.specs.Allowing.{is_allowed_line, without_number}
 use Rattle.explore_command.specs.declared.judging.Judgement.{Judgement}
 use Rattle.explore_command.specs.declared.judging.Judgement.TheVariants.{Allowed, NotAllowed}
 use Rattle.flat_model.specs.Shown.{HartEnd}

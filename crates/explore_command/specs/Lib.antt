@@ -1,4 +1,3 @@
-pub mod Allowing
 pub mod Exploring
 pub mod Judging
 pub mod Keeping
@@ -10,5 +9,4 @@ pub mod ModelKeeping
 pub mod Searching
 pub mod Telling
 pub mod Passing
-pub mod Patterns
 pub mod Sparing

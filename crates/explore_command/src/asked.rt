@@ -81,7 +81,7 @@ impl Asked {
 }
 
 /// The bytes of the file that was named, if one was. Which lines are no outcome is remarked.
-pub(crate) fn allow_file<'a, F: Files>(
+pub fn allow_file<'a, F: Files>(
     alloc: Global,
     files: &mut F,
     allow: Option<&'a str>,

@@ -3,9 +3,9 @@
 ghost use Rattle.std.specs.Prelude.{◌≡◌, ◌++◌, ◌||◌, IfErr, IfOk, OnErr, OnOk, map, option_map};
 ghost use Rattle.explore_command.specs.Judging.{IsToldBy, fail_lines, have_failure, judgement_of_lines, refusal_line, refusal_lines, refusals};
 
-use crate::allowing::{Allowed, without_number};
 use crate::failing::fails_of;
 use crate::findings::Findings;
+use allowed_outcomes::{Allowed, without_number};
 use command_files::Fault;
 use command_settings::Explore;
 use std::alloc::{AllocError, Global};

@@ -1,7 +1,6 @@
 //! `rvtl explore`, over files and streams that the caller hands in.
 #![tactic(auto)]
 
-mod allowing;
 mod architecture;
 mod asked;
 mod exploration;
@@ -12,12 +11,12 @@ mod judging;
 mod keeping;
 mod laws;
 mod no_outcomes;
-mod patterns;
 mod sample;
 mod show;
 mod sparing;
 
 pub use architecture::architecture_files;
+pub use asked::allow_file;
 pub use exploring::explore_files;
 pub use judging::Judgement;
 pub use laws::passing_is_safe;

@@ -7,12 +7,21 @@ use Rattle.std.proofs.lemmas.Bool.{false≢true}
 use Rattle.std.proofs.lemmas.Bool.Decides.{Decides-eqb}
 use Rattle.std.specs.Cmp.Lexicographic.{pointwise}
 use Rattle.elf_loader.specs.Image.{Initial, word_at}
-use Rattle.fence_audit.specs.Auditing.{AreWeighed, AreWeighedBy, HasEnoughBelow, IsEnough, IsLeftOut, IsReduction, IsSame, IsWeighed, is_below}
+use Rattle.fence_audit.specs.Adding.{IsAddition, IsAllowance, IsMissing, IsReverted}
+use Rattle.fence_audit.specs.Answers.{IsSearchOf, answer_as, is_enough, is_whole, refused_place}
+use Rattle.fence_audit.specs.Auditing.{ArePartsOf, AreWeighed, AreWeighedBy, HasEnoughBelow, IsAudit, IsAuditBy, IsEnough, IsLeftOut, IsReduction, IsSame, IsWeighed, audit_with, is_below}
 use Rattle.std.specs.declared.alloc.AllocError.{AllocError}
 use Rattle.fence_audit.specs.declared.searches.Asking.{Asking}
 use Rattle.fence_audit.specs.Searches.{AreSearched, Grows, IsAsked, answer_in, are_same, is_of, search_in}
+use Rattle.architecture_outcomes.specs.declared.architecture.Architecture.{Architecture}
+use Rattle.architecture_outcomes.specs.declared.outcome.Outcome.{Outcome}
+use Rattle.fence_audit.specs.declared.allowing.Allowance.TheVariants.{Broken, Kept}
+use Rattle.fence_audit.specs.declared.allowing.Missing.{Missing}
 use Rattle.fence_audit.specs.declared.answers.Answer.{Answer}
-use Rattle.fence_audit.specs.declared.answers.Answer.TheVariants.{Same}
+use Rattle.fence_audit.specs.declared.auditing.Audit.{Audit}
+use Rattle.fence_audit.specs.declared.auditing.Parts.{Parts}
+use Rattle.machine_types.specs.declared.config.Config.{Config}
+use Rattle.fence_audit.specs.declared.answers.Answer.TheVariants.{Bounded, Fewer, Other, Same}
 use Rattle.fence_audit.specs.declared.searches.Search.{Search}
 use Rattle.image_orderings.specs.Forms.{weaker_words}
 use Rattle.image_orderings.specs.Programs.{patches_with, patches_without}
@@ -122,6 +131,10 @@ pub each_are_weighed_stay : (image : Initial) (old new : List Search) (patches :
 each_are_weighed_stay image old new patches orderings grown all =
     All-weaker (AreWeighed image old patches) (AreWeighed image new patches) (λ o is. are_weighed_stay image old new patches o grown is) orderings all
 
+pub each_reverted_stays : (old new : List Search) (patches own : List Patch) → Grows old new → All (IsReverted old patches) own → All (IsReverted new patches) own
+each_reverted_stays old new patches own grown all =
+    All-weaker (IsReverted old patches) (IsReverted new patches) (λ p is. asked_stays old new (patches_with p.address p.word patches) grown is) own all
+
 pub enough_stays : (own : List Patch) (old new : List Search) (patches : List Patch) → Grows old new → IsEnough own old patches → IsEnough own new patches
 enough_stays own old new patches grown (inl is) = inl is
 enough_stays own old new patches grown (inr is) = inr (answer_stays old new patches Same grown is)
@@ -163,3 +176,81 @@ reduction asking orderings own last last' first second third all alone one weigh
   enough = enough_stays own third all last three enough;
   each = subst (λ (patches : List Patch). All (IsLeftOut all patches) orderings) is each;
 }
+
+-- what is enough, and what isn't
+pub same_of : (answer : Answer) (b : Bool) → b ≡ is_enough answer → b ≡ true → answer ≡ Same
+same_of Same b is yes = refl
+same_of (Other place) b is yes = absurd (false≢true (sym is ∙ yes))
+same_of (Fewer place) b is yes = absurd (false≢true (sym is ∙ yes))
+same_of Bounded b is yes = absurd (false≢true (sym is ∙ yes))
+
+pub not_enough : (searches : List Search) (patches : List Patch) (answer : Answer) (b : Bool) → answer_in searches patches ≡ Some answer → b ≡ is_enough answer → b ≡ false
+    → answer_in searches patches ≡ Some Same → ⊥
+not_enough searches patches Same b asked is no same = false≢true (sym no ∙ is)
+not_enough searches patches (Other place) b asked is no same =
+    let bad : Some (Other place) ≡ Some Same = sym asked ∙ same in cc
+not_enough searches patches (Fewer place) b asked is no same =
+    let bad : Some (Fewer place) ≡ Some Same = sym asked ∙ same in cc
+not_enough searches patches Bounded b asked is no same =
+    let bad : Some Bounded ≡ Some Same = sym asked ∙ same in cc
+
+-- where all that may be ordered is not enough
+pub not_added : (asking : Asking) (own most last : List Patch) (searches : List Search) (answer : Answer) (b : Bool) → answer_in searches most ≡ Some answer → b ≡ is_enough answer → b ≡ false
+    → last ≡ most → AreSearched asking searches → IsAddition asking own most searches last
+not_added asking own most last searches answer b asked is no as_it_was searched = record {
+  searched = searched;
+  asked = answered searches most answer asked;
+  enough = inl as_it_was;
+  each = λ same. absurd (not_enough searches most answer b asked is no same);
+}
+
+-- the searches of programs with more orderings: all of them, which is enough, and then fewer
+pub addition : (asking : Asking) (own most last : List Patch) (first all : List Search) → answer_in first most ≡ Some Same → Grows first all → IsEnough most all last
+    → All (IsReverted all last) own → AreSearched asking all → IsAddition asking own most all last
+addition asking own most last first all same grown enough each searched = record {
+  searched = searched;
+  asked = asked_stays first all most grown (answered first most Same same);
+  enough = enough;
+  each = λ is. each;
+}
+
+-- ---- an audit
+
+module _ (image : Initial) (config : Config) (addresses : List ℕ) (window limit : ℕ) where
+  pub audited : (answers : Architecture → Answer) (known : Architecture) (parts : Parts) (audit : Audit) (whole : Bool) → IsSearchOf image config addresses window limit known
+      → ArePartsOf image config addresses window limit answers whole parts → whole ≡ is_whole known → audit ≡ audit_with known parts → IsAuditBy image config addresses window limit answers audit
+  audited answers known parts audit whole found are is made =
+      subst (IsAuditBy image config addresses window limit answers) (sym made)
+      (record { known = found; parts = subst (λ (b : Bool). ArePartsOf image config addresses window limit answers b parts) is are })
+
+  -- beside its own outcomes
+  pub audited_as : (known : Architecture) (outcomes : List Outcome) (parts : Parts) (audit : Audit) (whole : Bool) → outcomes ≡ known.outcomes.items → IsSearchOf image config addresses window limit known
+      → ArePartsOf image config addresses window limit (answer_as outcomes) whole parts → whole ≡ is_whole known → audit ≡ audit_with known parts → IsAudit image config addresses window limit audit
+  audited_as known outcomes parts audit whole same found are is made =
+      subst (IsAudit image config addresses window limit) (sym made)
+      (record {
+        known = found;
+        parts = subst (λ (xs : List Outcome). ArePartsOf image config addresses window limit (answer_as xs) (is_whole known) parts) same
+            (subst (λ (b : Bool). ArePartsOf image config addresses window limit (answer_as outcomes) b parts) is are);
+      })
+
+  -- and beside what is allowed
+  pub kept : (answers : Architecture → Answer) (known : Architecture) (parts : Parts) (audit : Audit) (whole : Bool) → refused_place (answers known) ≡ None → IsSearchOf image config addresses window limit known
+      → ArePartsOf image config addresses window limit answers whole parts → whole ≡ is_whole known → audit ≡ audit_with known parts → IsAllowance image config addresses window limit answers (Kept audit)
+  kept answers known parts audit whole none found are is made =
+      record {
+        allowed = subst (λ (a : Audit). refused_place (answers a.known) ≡ None) (sym made) none;
+        needs = audited answers known parts audit whole found are is made;
+      }
+
+  pub broken : (answers : Architecture → Answer) (known : Architecture) (place : ℕ) (missing : Missing) → refused_place (answers known) ≡ Some place → IsSearchOf image config addresses window limit known
+      → IsMissing image config addresses window limit answers known place missing → IsAllowance image config addresses window limit answers (Broken missing)
+  broken answers known place missing refused found lacks =
+      let known_is = sym lacks.known_is in
+      let place_is = sym lacks.place_is in
+      record {
+        known = subst (IsSearchOf image config addresses window limit) known_is found;
+        refused = subst (λ (k : Architecture). refused_place (answers k) ≡ Some missing.place) known_is (subst (λ (p : ℕ). refused_place (answers known) ≡ Some p) place_is refused);
+        lacks = subst (λ (k : Architecture). IsMissing image config addresses window limit answers k missing.place missing) known_is
+            (subst (λ (p : ℕ). IsMissing image config addresses window limit answers known p missing) place_is lacks);
+      }

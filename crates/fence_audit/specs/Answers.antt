@@ -1,15 +1,21 @@
--- What a search of a changed program told, beside what one of the program as it is told.
-use Rattle.std.specs.Prelude.{◌≡◌, ◌≢◌, ◌≤◌, ℕ, All, Bool, List, None, Option, Some, false, min, not, position, true}
+-- What a search of a changed program told, beside what one of the program as it is told, or a file allows.
+use Rattle.std.specs.Prelude.{◌≡◌, ◌≢◌, ◌≤◌, ◌+◌, ◌∷◌, [], ℕ, All, Bool, List, None, Option, Some, false, if◌then◌else◌, min, not, position, true}
 use Rattle.std.specs.List.{list_any}
 use Rattle.std.specs.List.Sorted.{IsStrictlySortedBy}
 use Rattle.std.specs.Ordering.{on}
+use Rattle.allowed_outcomes.specs.Allowing.{without_number}
+use Rattle.allowed_outcomes.specs.Known.{allows_line}
 use Rattle.architecture_outcomes.specs.Outcomes.{IsDecided, IsWitnessed, TellsEachEnd, end_of, ends_of, tells}
 use Rattle.architecture_outcomes.specs.declared.architecture.Architecture.{Architecture}
 use Rattle.architecture_outcomes.specs.declared.outcome.Outcome.{Outcome}
 use Rattle.elf_loader.specs.Image.{Initial}
+use Rattle.exploration_text.specs.Words.{end_text}
+use Rattle.exploration_text.specs.declared.wording.WordName.{WordName}
 use Rattle.exploration_text.specs.Ranks.{outcome_cmp}
 use Rattle.fence_audit.specs.declared.answers.Answer.{Answer}
 use Rattle.fence_audit.specs.declared.answers.Answer.TheVariants.{Bounded, Fewer, Other, Same}
+use Rattle.fence_audit.specs.declared.answers.Standard.{Standard}
+use Rattle.fence_audit.specs.declared.answers.Standard.TheVariants.{AsItIs, Within}
 use Rattle.machine_types.specs.declared.config.Config.{Config}
 use Rattle.state_search.specs.declared.findings.Extent.{Extent}
 use Rattle.state_search.specs.declared.findings.Extent.TheVariants.{Complete}
@@ -57,5 +63,40 @@ answer_by None (Some place) true = Fewer place
 answer_by None None true = Same
 
 -- what was found beside what was known, where the search that knew it was whole
-abbrev pub answer_of : (known : List Outcome) → Architecture → Answer
-answer_of known found = answer_by (first_beyond known found.outcomes.items) (first_beyond found.outcomes.items known) (is_whole found)
+abbrev pub answer_as : (known : List Outcome) → Architecture → Answer
+answer_as known found = answer_by (first_beyond known found.outcomes.items) (first_beyond found.outcomes.items known) (is_whole found)
+
+-- ---- beside what is allowed
+
+-- the line that tells it is allowed
+abbrev pub is_allowed : (allows : List ℕ → Bool) → List WordName → Outcome → Bool
+is_allowed allows names o = allows (without_number (end_text names (end_of o)))
+
+-- the place of the first that isn't allowed, counted from a number on
+abbrev pub first_refused : (allows : List ℕ → Bool) → List WordName → (place : ℕ) → List Outcome → Option ℕ
+first_refused allows names place [] = None
+first_refused allows names place (o ∷ rest) = if is_allowed allows names o then first_refused allows names (place + 1) rest else Some place
+
+-- what was found beside what is allowed, of which the program may lack any
+abbrev pub answer_within : (allows : List ℕ → Bool) → List WordName → Architecture → Answer
+answer_within allows names found = answer_by (first_refused allows names 0 found.outcomes.items) None (is_whole found)
+
+-- ---- beside either
+
+-- it was whole, and has the outcomes that it is to have
+abbrev pub is_enough : Answer → Bool
+is_enough Same = true
+is_enough (Other place) = false
+is_enough (Fewer place) = false
+is_enough Bounded = false
+
+-- the place of the first outcome that it may not have
+abbrev pub refused_place : Answer → Option ℕ
+refused_place Same = None
+refused_place (Other place) = Some place
+refused_place (Fewer place) = None
+refused_place Bounded = None
+
+abbrev pub answer_of : Standard → Architecture → Answer
+answer_of (AsItIs known) = answer_as known.now
+answer_of (Within names allowed) = answer_within (allows_line allowed.now) names.now

@@ -1,10 +1,13 @@
 -- What an audit of a program's orderings has searched, and what it leaves.
 use Rattle.std.specs.Prelude.{◌≡◌, ◌⊎◌, ℕ, All, Bool, List, Some, true}
 use Rattle.elf_loader.specs.Image.{Initial, word_at}
-use Rattle.fence_audit.specs.Answers.{IsSearchOf, is_whole}
+use Rattle.architecture_outcomes.specs.declared.architecture.Architecture.{Architecture}
+use Rattle.fence_audit.specs.Answers.{IsSearchOf, answer_as, is_whole}
 use Rattle.fence_audit.specs.Searches.{AreSearched, IsAsked, IsSearched, answer_in}
+use Rattle.fence_audit.specs.declared.answers.Answer.{Answer}
 use Rattle.fence_audit.specs.declared.answers.Answer.TheVariants.{Same}
 use Rattle.fence_audit.specs.declared.auditing.Audit.{Audit}
+use Rattle.fence_audit.specs.declared.auditing.Parts.{Parts}
 use Rattle.fence_audit.specs.declared.searches.Asking.{Asking}
 use Rattle.fence_audit.specs.declared.searches.Search.{Search}
 use Rattle.image_orderings.specs.Forms.{is_weaker, weaker_words}
@@ -65,13 +68,27 @@ pub record IsReduction (asking : Asking) (orderings : List ImageOrdering) (own :
 
 -- ---- an audit
 
--- the program as it is was searched; where that search was whole, so was it without each ordering, of each FENCE that is needed with each weaker one, and the last program, without each of its orderings; each search is what it says
-pub record IsAudit (image : Initial) (config : Config) (addresses : List ℕ) (window limit : ℕ) (audit : Audit) : Type 0 where
+-- all that orders was found; where the program as it is was searched whole, it was searched without each ordering, of each FENCE that is needed with each weaker one, and the last program, without each of its orderings; each search is what it says
+pub record ArePartsOf (image : Initial) (config : Config) (addresses : List ℕ) (window limit : ℕ) (answers : Architecture → Answer) (whole : Bool) (parts : Parts) : Type 0 where
+  pub orderings : parts.orderings.items ≡ orderings_of image
+  pub own : parts.own.items ≡ own_patches image parts.orderings.items
+  pub searched : All (IsSearched image config addresses window limit answers) parts.searches.items
+  pub alone : whole ≡ true → All (IsLeftOut parts.searches.items parts.own.items) parts.orderings.items
+  pub weighed : whole ≡ true → All (AreWeighed image parts.searches.items parts.own.items) parts.orderings.items
+  pub enough : whole ≡ true → IsEnough parts.own.items parts.searches.items parts.last.items
+  pub each : whole ≡ true → All (IsLeftOut parts.searches.items parts.last.items) parts.orderings.items
+
+abbrev pub parts_in : Audit → Parts
+parts_in audit = record { orderings = audit.orderings; own = audit.own; searches = audit.searches; last = audit.last }
+
+abbrev pub audit_with : Architecture → Parts → Audit
+audit_with known parts = record { known = known; orderings = parts.orderings; own = parts.own; searches = parts.searches; last = parts.last }
+
+-- the program as it is was searched, and then others, each beside what it is to have
+pub record IsAuditBy (image : Initial) (config : Config) (addresses : List ℕ) (window limit : ℕ) (answers : Architecture → Answer) (audit : Audit) : Type 0 where
   pub known : IsSearchOf image config addresses window limit audit.known
-  pub orderings : audit.orderings.items ≡ orderings_of image
-  pub own : audit.own.items ≡ own_patches image audit.orderings.items
-  pub searched : All (IsSearched image config addresses window limit audit.known.outcomes.items) audit.searches.items
-  pub alone : is_whole audit.known ≡ true → All (IsLeftOut audit.searches.items audit.own.items) audit.orderings.items
-  pub weighed : is_whole audit.known ≡ true → All (AreWeighed image audit.searches.items audit.own.items) audit.orderings.items
-  pub enough : is_whole audit.known ≡ true → IsEnough audit.own.items audit.searches.items audit.last.items
-  pub each : is_whole audit.known ≡ true → All (IsLeftOut audit.searches.items audit.last.items) audit.orderings.items
+  pub parts : ArePartsOf image config addresses window limit answers (is_whole audit.known) (parts_in audit)
+
+-- each is to have the outcomes of the program as it is
+abbrev pub IsAudit : Initial → Config → (addresses : List ℕ) → (window limit : ℕ) → Audit → Type 0
+IsAudit image config addresses window limit audit = IsAuditBy image config addresses window limit (answer_as audit.known.outcomes.items) audit

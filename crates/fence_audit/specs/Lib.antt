@@ -1,5 +1,9 @@
+pub mod Adding
 pub mod Answers
 pub mod Auditing
+pub mod Lacking
 pub mod Searches
 pub mod Text
 pub use Rattle.architecture_outcomes.specs.Words
+pub use Rattle.allowed_outcomes.specs.Allowing
+pub use Rattle.allowed_outcomes.specs.Known

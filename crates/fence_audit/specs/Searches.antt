@@ -1,7 +1,7 @@
 -- The searches of an audit, each of an image with words replaced.
 use Rattle.std.specs.Prelude.{All, ◌<◌, ◌≡◌, ◌&&◌, ◌==◌, ◌++◌, ℕ, [], ◌∷◌, Bool, List, None, Option, Some, if◌then◌else◌, is_some, option_map, true}
 use Rattle.std.specs.Cmp.Lexicographic.{pointwise}
-use Rattle.architecture_outcomes.specs.declared.outcome.Outcome.{Outcome}
+use Rattle.architecture_outcomes.specs.declared.architecture.Architecture.{Architecture}
 use Rattle.elf_loader.specs.Image.{HasWord, Initial}
 use Rattle.fence_audit.specs.Answers.{IsSearchOf, answer_of}
 use Rattle.fence_audit.specs.declared.answers.Answer.{Answer}
@@ -14,9 +14,9 @@ use Rattle.image_orderings.specs.declared.replacing.Patch.{Patch}
 use Rattle.machine_types.specs.declared.config.Config.{Config}
 
 -- it is of the image with these words replaced, and answers by what it found
-pub record IsSearched (image : Initial) (config : Config) (addresses : List ℕ) (window limit : ℕ) (known : List Outcome) (search : Search) : Type 0 where
+pub record IsSearched (image : Initial) (config : Config) (addresses : List ℕ) (window limit : ℕ) (answers : Architecture → Answer) (search : Search) : Type 0 where
   pub found : IsSearchOf (patched image search.patches.items) config addresses window limit search.found
-  pub answer : search.answer ≡ answer_of known search.found
+  pub answer : search.answer ≡ answers search.found
 
 abbrev pub are_same : Patch → Patch → Bool
 are_same a b = a.address == b.address && a.word == b.word
@@ -54,7 +54,7 @@ AreInside question patches = All (λ (p : Patch). HasWord question.image.now p.a
 
 abbrev pub IsSearchedBy : Asking → Search → Type 0
 IsSearchedBy asking search =
-    IsSearched asking.question.image.now asking.question.config asking.question.addresses.now asking.question.window asking.question.limit asking.known.now search
+    IsSearched asking.question.image.now asking.question.config asking.question.addresses.now asking.question.window asking.question.limit (answer_of asking.standard) search
 
 abbrev pub AreSearched : Asking → List Search → Type 0
 AreSearched asking searches = All (IsSearchedBy asking) searches

@@ -171,9 +171,12 @@ last_text a =
 abbrev pub counted : ℕ → (what : List ℕ) → List ℕ
 counted number what = decimal number ++ what
 
+abbrev pub outcomes_text : ℕ → List ℕ
+outcomes_text outcomes = counted outcomes (codes " outcomes of the program as it is\n")
+
 abbrev pub count_text : (orderings programs outcomes : ℕ) → List ℕ
 count_text orderings programs outcomes =
-    codes "searched: " ++ (counted orderings (codes " orderings, ") ++ (counted programs (codes " programs, ") ++ counted outcomes (codes " outcomes of the program as it is\n")))
+    codes "searched: " ++ (counted orderings (codes " orderings, ") ++ (counted programs (codes " programs, ") ++ outcomes_text outcomes))
 
 abbrev pub counts_text : Audit → List ℕ
 counts_text a = count_text (length a.orderings.items) (length a.searches.items + 1) (length a.known.outcomes.items)

@@ -1,17 +1,30 @@
-//! What a search of a changed program told, beside what one of the program as it is told.
-ghost use Rattle.std.specs.Prelude.{◌≡◌};
+//! What a search of a changed program told, beside what one of the program as it is told, or a file allows.
+ghost use Rattle.std.specs.Prelude.{◌≡◌, IfOk};
+ghost use Rattle.allowed_outcomes.specs.Known.{allows_line};
 ghost use Rattle.fence_audit.specs.Answers as spec;
 
+use allowed_outcomes::{Allowed, without_number};
 use architecture_outcomes::window_search::Reach;
 use architecture_outcomes::{Architecture, Outcome};
+use exploration_text::{WordName, end_text};
 use state_search::Extent;
+use std::alloc::{AllocError, Global};
 
-/// What a search of a changed program told, beside what a whole one of the program as it is told.
+/// Which outcomes a changed program is to have.
+#[derive(Clone, Copy)]
+pub enum Standard<'a> {
+    /// Those of the program as it is, of which a whole search told these.
+    AsItIs(&'a [Outcome]),
+    /// None that the file doesn't allow, where its lines call words of memory so.
+    Within(&'a [WordName<'a>], &'a Allowed<'a>),
+}
+
+/// What a search of a changed program told, beside the outcomes that it is to have.
 #[derive(Clone, Copy, Debug, PartialEq, Eq)]
 pub enum Answer {
-    /// Both were whole, and have the same outcomes.
+    /// It was whole, and has the outcomes that it is to have.
     Same,
-    /// The outcome at this place isn't one of the program as it is.
+    /// The outcome at this place is none that it may have.
     Other(usize),
     /// It was whole, and the outcome at this place of the program as it is isn't one of it.
     Fewer(usize),
@@ -29,9 +42,95 @@ pub fn is_whole(found: &Architecture) -> bool
     }
 }
 
+/// Whether it was whole, and has the outcomes that it is to have.
+pub(crate) fn is_enough(answer: Answer) -> bool
+    ensures { result ≡ spec.is_enough answer }
+{
+    match answer {
+        Answer::Same => true,
+        Answer::Other(_) | Answer::Fewer(_) | Answer::Bounded => false,
+    }
+}
+
+/// The place of the first outcome that it may not have, if there is one.
+pub(crate) fn refused_place(answer: Answer) -> Option<usize>
+    ensures { result ≡ spec.refused_place answer }
+{
+    match answer {
+        Answer::Other(place) => Some(place),
+        Answer::Same | Answer::Fewer(_) | Answer::Bounded => None,
+    }
+}
+
+/// What was found, beside what there is to be.
+pub(crate) fn answer_of(
+    alloc: Global,
+    standard: Standard<'_>,
+    found: &Architecture,
+) -> Result<Answer, AllocError>
+    ensures { IfOk result (λ answer. answer ≡ spec.answer_of standard found.now) }
+{
+    match standard {
+        Standard::AsItIs(known) => Ok(answer_as(known, found)),
+        Standard::Within(names, allowed) => answer_within(alloc, names, allowed, found),
+    }
+}
+
+/// What was found, beside what is allowed.
+fn answer_within(
+    alloc: Global,
+    names: &[WordName<'_>],
+    allowed: &Allowed<'_>,
+    found: &Architecture,
+) -> Result<Answer, AllocError>
+    ensures { IfOk result (λ answer. answer ≡ spec.answer_within (allows_line allowed.now) names.now found.now) }
+{
+    if let Some(place) = first_refused(alloc, names, allowed, &found.outcomes)? {
+        return Ok(Answer::Other(place));
+    }
+    if is_whole(found) {
+        Ok(Answer::Same)
+    } else {
+        Ok(Answer::Bounded)
+    }
+}
+
+/// The place of the first outcome that isn't allowed.
+fn first_refused(
+    alloc: Global,
+    names: &[WordName<'_>],
+    allowed: &Allowed<'_>,
+    outcomes: &[Outcome],
+) -> Result<Option<usize>, AllocError>
+    ensures { IfOk result (λ place. place ≡ spec.first_refused (allows_line allowed.now) names.now 0 outcomes.now) }
+{
+    let mut place: usize = 0;
+    let mut rest = outcomes;
+    while let [first, tail @ ..] = rest {
+        if !is_allowed(alloc, names, allowed, first)? {
+            return Ok(Some(place));
+        }
+        rest = tail;
+        place += 1;
+    }
+    Ok(None)
+}
+
+fn is_allowed(
+    alloc: Global,
+    names: &[WordName<'_>],
+    allowed: &Allowed<'_>,
+    outcome: &Outcome,
+) -> Result<bool, AllocError>
+    ensures { IfOk result (λ allows. allows ≡ spec.is_allowed (allows_line allowed.now) names.now outcome.now) }
+{
+    let line = end_text(alloc, names, &outcome.harts, &outcome.words)?;
+    Ok(allowed.has(without_number(&line)))
+}
+
 /// What was found, beside what was known.
-pub(crate) fn answer_of(known: &[Outcome], found: &Architecture) -> Answer
-    ensures { result ≡ spec.answer_of known.now found.now }
+fn answer_as(known: &[Outcome], found: &Architecture) -> Answer
+    ensures { result ≡ spec.answer_as known.now found.now }
 {
     if let Some(place) = first_beyond(known, &found.outcomes) {
         return Answer::Other(place);

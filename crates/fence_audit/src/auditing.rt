@@ -1,10 +1,11 @@
 //! Which of a program's orderings it needs.
-ghost use Rattle.std.specs.Prelude.{All, IfOk, OnOk};
+ghost use Rattle.std.specs.Prelude.{◌≡◌, All, IfOk, OnOk};
 ghost use Rattle.elf_loader.specs.Image.{HasWord};
-ghost use Rattle.fence_audit.specs.Auditing.{IsAudit, IsLeftOut, IsReduction};
+ghost use Rattle.fence_audit.specs.Answers.{answer_of};
+ghost use Rattle.fence_audit.specs.Auditing.{ArePartsOf, IsAudit, IsLeftOut, IsReduction, audit_with};
 ghost use Rattle.fence_audit.specs.Searches.{AreInside, AreSearched, Grows, IsReady};
 
-use crate::answers::is_whole;
+use crate::answers::{Standard, is_whole};
 use crate::searches::{Asking, Question, Search, explore};
 use architecture_outcomes::Architecture;
 use image_orderings::{ImageOrdering, Patch, orderings_of, own_patches, patches_without};
@@ -38,14 +39,56 @@ pub fn audit_program<W: Watch>(
     requires { IsReady question }
     ensures { IfOk result (IsAudit question.entry.image.now question.entry.config question.entry.addresses.now question.entry.window question.entry.limit) }
 {
+    let known = explore(alloc, question, &[], watch)?;
+    let standard = Standard::AsItIs(&known.outcomes);
+    let parts = parts_of(alloc, question, standard, is_whole(&known), watch)?;
+    Ok(audit_with(known, parts))
+}
+
+/// What an audit has beside what was found of the program as it is.
+#[derive(Drop)]
+pub(crate) struct Parts {
+    orderings: Vec<ImageOrdering>,
+    own: Vec<Patch>,
+    searches: Vec<Search>,
+    last: Vec<Patch>,
+}
+
+pub(crate) fn audit_with(known: Architecture, parts: Parts) -> Audit
+    ensures { result ≡ audit_with known parts }
+{
+    let Parts {
+        orderings,
+        own,
+        searches,
+        last,
+    } = parts;
+    Audit {
+        known,
+        orderings,
+        own,
+        searches,
+        last,
+    }
+}
+
+/// The searches of programs with fewer orderings, if the program as it is has been searched whole.
+pub(crate) fn parts_of<W: Watch>(
+    alloc: Global,
+    question: Question<'_>,
+    standard: Standard<'_>,
+    whole: bool,
+    watch: &W,
+) -> Result<Parts, AllocError>
+    requires { IsReady question }
+    ensures { IfOk result (ArePartsOf question.entry.image.now question.entry.config question.entry.addresses.now question.entry.window question.entry.limit (answer_of standard.entry) whole) }
+{
     let orderings = orderings_of(alloc, question.image)?;
     let own = own_patches(alloc, question.image, &orderings)?;
-    let known = explore(alloc, question, &[], watch)?;
-    if !is_whole(&known) {
+    if !whole {
         let searches = Vec::new(alloc);
         let last = own.as_slice().to_vec(alloc)?;
-        return Ok(Audit {
-            known,
+        return Ok(Parts {
             orderings,
             own,
             searches,
@@ -55,11 +98,10 @@ pub fn audit_program<W: Watch>(
     let asking = Asking {
         alloc,
         question,
-        known: &known.outcomes,
+        standard,
     };
     let Reduced { searches, last } = asking.reduction(&orderings, &own, watch)?;
-    Ok(Audit {
-        known,
+    Ok(Parts {
         orderings,
         own,
         searches,

@@ -106,7 +106,28 @@ impl Asking<'_> {
             return Ok(last);
         };
         let words = weaker_words(self.alloc, word)?;
-        for form in words.as_slice() {
+        self.replaced_at(searches, address, &words, own, last, watch)
+    }
+
+    /// The program with the first of these words at an address that is enough, or else as it was.
+    pub(crate) fn replaced_at<W: Watch>(
+        &self,
+        searches: &mut Vec<Search>,
+        address: u32,
+        words: &[u32],
+        own: &[Patch],
+        last: Vec<Patch>,
+        watch: &W,
+    ) -> Result<Vec<Patch>, AllocError>
+        requires ready { IsReady self.now.question }
+        requires inside { AreInside self.now.question last.items }
+        requires enough { IsEnough own.now searches.old.items last.items }
+        ensures enough { IfOk result (λ made. IsEnough own.now searches.new.items made.items) }
+        ensures inside { IfOk result (λ made. AreInside self.now.question made.items) }
+        ensures grown { OnOk result (Grows searches.old.items searches.new.items) }
+        ensures searched { OnOk result (AreSearched self.now searches.old.items → AreSearched self.now searches.new.items) }
+    {
+        for form in words {
             let tried = patches_with(self.alloc, &last, address, *form)?;
             let answer = self.ask(searches, &tried, watch)?;
             if let Answer::Same = answer {

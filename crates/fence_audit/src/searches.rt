@@ -4,8 +4,8 @@ ghost use Rattle.fence_audit.specs.Answers.{IsSearchOf};
 ghost use Rattle.fence_audit.specs.Searches.{AreInside, AreSearched, Grows, IsReady, IsSearchedBy, answer_in, is_of, search_in};
 ghost use Rattle.image_orderings.specs.Replaced.{patched};
 
-use crate::answers::{Answer, answer_of};
-use architecture_outcomes::{Architecture, Outcome, explore_architecture};
+use crate::answers::{Answer, Standard, answer_of};
+use architecture_outcomes::{Architecture, explore_architecture};
 use elf_loader::Image;
 use exploration_text::explorer::Exploring;
 use image_orderings::{Patch, patched};
@@ -19,7 +19,7 @@ pub struct Search {
     /// The words that stand in it.
     pub patches: Vec<Patch>,
     pub found: Architecture,
-    /// Beside what is known of the program as it is.
+    /// Beside the outcomes that it is to have.
     pub answer: Answer,
 }
 
@@ -58,13 +58,12 @@ fn is_of(search: &Search, patches: &[Patch]) -> bool
     search.patches.as_slice() == patches
 }
 
-/// Searches of a program with words replaced, beside what is known of it as it is.
+/// Searches of a program with words replaced, beside the outcomes that it is to have.
 #[derive(Clone, Copy)]
 pub(crate) struct Asking<'a> {
     pub alloc: Global,
     pub question: Question<'a>,
-    /// The outcomes of the program as it is.
-    pub known: &'a [Outcome],
+    pub standard: Standard<'a>,
 }
 
 /// What is found of the image with these words replaced.
@@ -125,7 +124,7 @@ impl Asking<'_> {
         ensures searched { IfOk result (IsSearchedBy self.now) }
     {
         let found = explore(self.alloc, self.question, patches, watch)?;
-        let answer = answer_of(self.known, &found);
+        let answer = answer_of(self.alloc, self.standard, &found)?;
         let patches = patches.to_vec(self.alloc)?;
         Ok(Search {
             patches,

@@ -76,7 +76,11 @@ fn spell_number(into: &mut Vec<u8>, number: u64) -> Result<(), AllocError>
 }
 
 /// A number and what it counts.
-fn spell_counted(into: &mut Vec<u8>, number: usize, what: &[u8]) -> Result<(), AllocError>
+pub(crate) fn spell_counted(
+    into: &mut Vec<u8>,
+    number: usize,
+    what: &[u8],
+) -> Result<(), AllocError>
     ensures { OnOk result (into.new.items ≡ into.old.items ++ text.counted number what.now) }
 {
     spell_number(into, number as u64)?;
@@ -90,17 +94,18 @@ fn spell_counts(into: &mut Vec<u8>, audit: &Audit) -> Result<(), AllocError>
     into.extend_from_slice(b"searched: ")?;
     spell_counted(into, audit.orderings.len(), b" orderings, ")?;
     spell_counted(into, audit.searches.len() + 1, b" programs, ")?;
-    spell_counted(
-        into,
-        audit.known.outcomes.len(),
-        b" outcomes of the program as it is\n",
-    )?;
-    Ok(())
+    spell_outcomes(into, audit.known.outcomes.len())
+}
+
+pub(crate) fn spell_outcomes(into: &mut Vec<u8>, outcomes: usize) -> Result<(), AllocError>
+    ensures { OnOk result (into.new.items ≡ into.old.items ++ text.outcomes_text outcomes) }
+{
+    spell_counted(into, outcomes, b" outcomes of the program as it is\n")
 }
 
 // ---- words of a line
 
-fn spell_word(into: &mut Vec<u8>, word: Option<u32>) -> Result<(), AllocError>
+pub(crate) fn spell_word(into: &mut Vec<u8>, word: Option<u32>) -> Result<(), AllocError>
     ensures { OnOk result (into.new.items ≡ into.old.items ++ text.word_text word) }
 {
     let Some(word) = word else {
@@ -127,7 +132,7 @@ fn spell_part(into: &mut Vec<u8>, part: Part) -> Result<(), AllocError>
 }
 
 /// What a search left out.
-fn spell_bound(into: &mut Vec<u8>, reach: Reach, window: u32) -> Result<(), AllocError>
+pub(crate) fn spell_bound(into: &mut Vec<u8>, reach: Reach, window: u32) -> Result<(), AllocError>
     ensures { OnOk result (into.new.items ≡ into.old.items ++ text.bound_text reach window) }
 {
     match reach {
@@ -279,7 +284,11 @@ fn spell_named(
 }
 
 /// The symbol of an address, with a space behind it, if it has one.
-fn spell_symbol(into: &mut Vec<u8>, symbols: &Symbols, address: u32) -> Result<(), AllocError>
+pub(crate) fn spell_symbol(
+    into: &mut Vec<u8>,
+    symbols: &Symbols,
+    address: u32,
+) -> Result<(), AllocError>
     ensures { OnOk result (into.new.items ≡ into.old.items ++ place_before (nearest symbols.now address)) }
 {
     let Some(place) = symbols.nearest(address) else {
@@ -343,7 +352,7 @@ fn spell_answer(
 }
 
 /// What is said of an outcome, and the outcome at a place.
-fn spell_at(
+pub(crate) fn spell_at(
     alloc: Global,
     into: &mut Vec<u8>,
     what: &[u8],
@@ -424,7 +433,7 @@ fn spell_forms(
     Ok(())
 }
 
-fn answer_in(searches: &[Search], patches: &[Patch]) -> Option<Answer>
+pub(crate) fn answer_in(searches: &[Search], patches: &[Patch]) -> Option<Answer>
     ensures { result ≡ answer_in searches.now patches.now }
 {
     let search = search_in(searches, patches)?;
@@ -462,7 +471,7 @@ fn spell_last(alloc: Global, into: &mut Vec<u8>, audit: &Audit) -> Result<(), Al
     Ok(())
 }
 
-fn spell_minimal(into: &mut Vec<u8>, is_minimal: bool) -> Result<(), AllocError>
+pub(crate) fn spell_minimal(into: &mut Vec<u8>, is_minimal: bool) -> Result<(), AllocError>
     ensures { OnOk result (into.new.items ≡ into.old.items ++ text.minimal_text is_minimal) }
 {
     if is_minimal {

@@ -1,25 +1,28 @@
 -- Which faults the command hands up, and what its result says.
-use Rattle.std.proofs.Common.{◌≡◌, ◌⊎◌, ℕ, Err, IfErr, List, Ok, OnErr, OnOk, Option, Result, [], inl, inr, subst, sym}
+use Rattle.std.proofs.Common.{◌≡◌, ◌∙◌, ◌⊎◌, ℕ, Bool, Err, IfErr, IfOk, List, None, Ok, OnErr, OnOk, Option, Result, Some, [], ap, inl, inr, refl, subst, sym}
 use Rattle.std.specs.Io.KnownBytes.{Appends}
+use Rattle.std.specs.declared.alloc.AllocError.{AllocError}
 use Rattle.command_files.proofs.Left.{spoiled}
 use Rattle.command_files.specs.Contents.{Contents}
-use Rattle.command_files.specs.Faults.{IsImageFault, LeavesAtFault}
+use Rattle.command_files.specs.Faults.{IsImageFault, IsReadFault, LeavesAtFault, Name}
 use Rattle.command_files.specs.Sizes.{IsInside, config_named}
 use Rattle.command_files.specs.declared.fault.Fault.{Fault}
 use Rattle.command_files.specs.declared.fault.Fault.TheVariants.{BadAddress, BadEvent, BytesAfterTrace, CannotMake, CannotRead, CannotShow, CannotWrite, Check, Configuration, Event, Image, Mismatch, NoThread, NothingHappens, OtherImage, OutOfMemory, Text, TooManyRows}
 use Rattle.command_settings.specs.declared.wanted.Fences.{Fences}
 use Rattle.elf_loader.specs.Image.{Initial}
 use Rattle.elf_symbols.specs.Named.{Named}
-use Rattle.fence_audit.specs.Auditing.{IsAudit}
-use Rattle.fence_audit.specs.Text.{audit_text}
-use Rattle.fence_audit.specs.declared.auditing.Audit.{Audit}
-use Rattle.fences_command.specs.Fencing.{IsAuditCutOff, IsAuditTold, IsFencesFault, IsOfFile}
+use Rattle.explore_command.specs.Exploring.{IsAllowFile, IsNamedBy}
+use Rattle.exploration_text.specs.declared.wording.WordName.{WordName}
+use Rattle.fence_audit.specs.Adding.{IsAllowance}
+use Rattle.fence_audit.specs.Answers.{answer_within}
+use Rattle.fence_audit.specs.declared.allowing.Allowance.{Allowance}
+use Rattle.fences_command.specs.Fencing.{IsAuditCutOff, IsAuditTold, IsFencesFault, IsOfFile, IsSought, judgement_of, told_text}
 use Rattle.machine_types.specs.declared.config.Config.{Config}
 use Rattle.script_commands.specs.Named.{HoldsNamedImage}
 use Rattle.text_fields.specs.Writing.{Begins}
 
 pub of_image : (held : Contents) (fences : Fences) (fault : Fault) → IsImageFault held fences.raw fences.image fences.machine.memory fault → IsFencesFault held fences fault
-of_image held fences (CannotRead file) is = is
+of_image held fences (CannotRead file) is = inl is
 of_image held fences OutOfMemory is = tt
 of_image held fences (Image file error) is = is
 of_image held fences (Text file error) is = absurd is
@@ -38,26 +41,67 @@ of_image held fences Mismatch is = absurd is
 of_image held fences BadEvent is = absurd is
 of_image held fences Configuration is = absurd is
 
--- the audit of the image in the file is the file's
-pub of_file : (held : Contents) (fences : Fences) (config : Config) (image : Initial) (symbols : List Named) (audit : Audit) (inside : IsInside fences.machine) → config ≡ config_named fences.machine inside
-    → HoldsNamedImage held fences.raw fences.image.now fences.machine.memory image symbols → IsAudit image config [] fences.window fences.states audit → IsOfFile held fences symbols audit
-of_file held fences config image symbols audit inside is file so =
-    record { image = image; image_file = file; inside = inside; audited = subst (λ c. IsAudit image c [] fences.window fences.states audit) is so }
+-- of the file that says what is allowed
+of_named : (held : Contents) (fences : Fences) (name : Name) (fault : Fault) → fences.allow ≡ Some name → IsReadFault name fault → IsFencesFault held fences fault
+of_named held fences name (CannotRead file) at is = inr (at ∙ ap Some (sym is))
+of_named held fences name OutOfMemory at is = tt
+of_named held fences name CannotWrite at is = tt
+of_named held fences name (Image file error) at is = absurd is
+of_named held fences name (Text file error) at is = absurd is
+of_named held fences name (CannotMake file) at is = absurd is
+of_named held fences name (Event file line error) at is = absurd is
+of_named held fences name (BytesAfterTrace file) at is = absurd is
+of_named held fences name (NothingHappens file line outcome) at is = absurd is
+of_named held fences name (Check file error) at is = absurd is
+of_named held fences name (OtherImage file address) at is = absurd is
+of_named held fences name (TooManyRows file) at is = absurd is
+of_named held fences name (BadAddress word) at is = absurd is
+of_named held fences name (CannotShow word cause) at is = absurd is
+of_named held fences name NoThread at is = absurd is
+of_named held fences name Mismatch at is = absurd is
+of_named held fences name BadEvent at is = absurd is
+of_named held fences name Configuration at is = absurd is
+
+pub of_allow : (held : Contents) (fences : Fences) (allow : Option Name) (fault : Fault) → fences.allow ≡ allow → IsNamedBy allow IsReadFault fault → IsFencesFault held fences fault
+of_allow held fences None fault at is = absurd is
+of_allow held fences (Some name) fault at is = of_named held fences name fault at is
+
+pub allow_is_not_write : (allow : Option Name) (fault : Fault) → IsNamedBy allow IsReadFault fault → fault ≡ CannotWrite → ⊥
+allow_is_not_write None fault is at = is
+allow_is_not_write (Some name) fault is at = subst (IsReadFault name) at is
+
+-- what is sought of the image in the file is the file's
+pub of_file : (held before : Contents) (fences : Fences) (config : Config) (image : Initial) (symbols : List Named) (text : Option (List ℕ)) (allowance : Allowance) (inside : IsInside fences.machine)
+    → config ≡ config_named fences.machine inside → before ≡ held → IsAllowFile held fences.allow text
+    → HoldsNamedImage before fences.raw fences.image.now fences.machine.memory image symbols → IsSought image config fences.window fences.states text allowance → IsOfFile held fences symbols allowance
+of_file held before fences config image symbols text allowance inside is same allowed file so =
+    record {
+      image = image;
+      image_file = subst (λ (files : Contents). HoldsNamedImage files fences.raw fences.image.now fences.machine.memory image symbols) same file;
+      inside = inside;
+      text = text;
+      allow_file = allowed;
+      sought = subst (λ c. IsSought image c fences.window fences.states text allowance) is so;
+    }
 
 -- what is printed of it
-module _ (held : Contents) (fences : Fences) (symbols : List Named) (audit : Audit) (file : IsOfFile held fences symbols audit) (old new : Option (List ℕ)) where
-  pub all_told : {T : Type 0} (r : Result T Fault) → OnOk r (Appends old new (audit_text [] symbols audit)) → OnOk r (IsAuditTold held fences old new)
-  all_told (Ok done) so = record { symbols = symbols; audit = audit; of_file = file; printed = so }
-  all_told (Err fault) so = tt
+module _ (held : Contents) (fences : Fences) (symbols : List Named) (allowance : Allowance) (file : IsOfFile held fences symbols allowance) (old new : Option (List ℕ)) where
+  pub part_told : (fault : Fault) → (fault ≡ CannotWrite) ⊎ (fault ≡ OutOfMemory) → Begins old new (told_text symbols allowance)
+      → LeavesAtFault fault old new (IsAuditCutOff held fences old new)
+  part_told fault is so = spoiled old new _ fault is (record { symbols = symbols; allowance = allowance; of_file = file; begun = so })
 
-  pub part_told : {T : Type 0} (r : Result T Fault) → IfErr r (λ fault. (fault ≡ CannotWrite) ⊎ (fault ≡ OutOfMemory)) → OnErr r (Begins old new (audit_text [] symbols audit))
-      → IfErr r (λ fault. LeavesAtFault fault old new (IsAuditCutOff held fences old new))
-  part_told (Ok done) is so = tt
-  part_told (Err fault) is so = spoiled old new _ fault is (record { symbols = symbols; audit = audit; of_file = file; begun = so })
-
-pub output_told : {T : Type 0} (held : Contents) (fences : Fences) (r : Result T Fault) → IfErr r (λ fault. (fault ≡ CannotWrite) ⊎ (fault ≡ OutOfMemory)) → IfErr r (IsFencesFault held fences)
-output_told held fences (Ok done) is = tt
-output_told held fences (Err fault) is = elim is [
+pub output_told : (held : Contents) (fences : Fences) (fault : Fault) → (fault ≡ CannotWrite) ⊎ (fault ≡ OutOfMemory) → IsFencesFault held fences fault
+output_told held fences fault is = elim is [
   | inl at ↦ subst (IsFencesFault held fences) (sym at) tt
   | inr at ↦ subst (IsFencesFault held fences) (sym at) tt
 ]
+
+-- what is sought of no words of memory
+pub of_allowed : (image : Initial) (config : Config) (addresses : List ℕ) (window limit : ℕ) (names : List WordName) (allows other : List ℕ → Bool) (r : Result Allowance AllocError) → addresses ≡ [] → names ≡ []
+    → ((line : List ℕ) → allows line ≡ other line) → IfOk r (IsAllowance image config addresses window limit (answer_within allows names)) → IfOk r (IsAllowance image config [] window limit (answer_within other []))
+of_allowed image config addresses window limit names allows other (Err error) none nameless same so = tt
+of_allowed image config addresses window limit names allows other (Ok allowance) none nameless same so =
+    let all : allows ≡ other = λ i line. same line i in
+    subst (λ (f : List ℕ → Bool). IsAllowance image config [] window limit (answer_within f []) allowance) all
+    (subst (λ (ns : List WordName). IsAllowance image config [] window limit (answer_within allows ns) allowance) nameless
+    (subst (λ (places : List ℕ). IsAllowance image config places window limit (answer_within allows names) allowance) none so))

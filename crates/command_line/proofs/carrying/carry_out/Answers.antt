@@ -1,8 +1,8 @@
 use Rattle.std.proofs.Common.{refl, subst, sym}
 use Rattle.command_files.proofs.Left.{handed_up}
-use Rattle.command_line.proofs.Carried.{all_noted, all_stay, all_told_of, check_beyond, check_came, explain_told, explained, explore_beyond, explore_came, explore_written, show_beyond, show_came, show_written, stay_of, told_of}
-use Rattle.command_line.proofs.Meant.{beyond_fences, beyond_run, journal_alone, no_address, unwritten}
-use Rattle.command_line.proofs.Leaving.{all_left_of, as_told, chart_inside, chart_outside, check_inside, check_outside, explore_inside, explore_outside, left_of, show_inside, show_outside, stream_left}
+use Rattle.command_line.proofs.Carried.{all_noted, all_stay, all_told_of, check_beyond, check_came, explain_told, explained, explore_beyond, explore_came, explore_written, show_beyond, fences_beyond, fences_came, fences_noted, show_came, show_written, stay_of, told_of}
+use Rattle.command_line.proofs.Meant.{beyond_run, journal_alone, no_address, unwritten}
+use Rattle.command_line.proofs.Leaving.{all_left_of, as_told, chart_inside, chart_outside, check_inside, check_outside, explore_inside, explore_outside, fences_inside, fences_outside, left_of, show_inside, show_outside, stream_left}
 use Rattle.command_line.specs.Running.{IsOutOfRange, IsDone, IsNoted, IsWritten}
 use Rattle.command_line.specs.Telling.{ComesBeforeFiles}
 use Rattle.trace_commands.proofs.Paged.{page_never_misused}
@@ -246,32 +246,29 @@ pub returns-in-Check-clause-noted : goal.returns-in-Check-clause-noted
 returns-in-Check-clause-noted g c = all_noted _ _ _ _ _ _ _ _ c.checked.result c.in-Check.is c.checked.ensures.noted
 
 -- an audit of orderings
-pub returns-in_ok-fences_files-in-Fences-clause-came : goal.returns-in_ok-fences_files-in-Fences-clause-came
-returns-in_ok-fences_files-in-Fences-clause-came g c = subst (IsDone _ _ _ _) (sym c.in-Fences.is) c.in_ok-fences_files-in-Fences.ensures.audited
+pub returns-in-Fences-clause-came : goal.returns-in-Fences-clause-came
+returns-in-Fences-clause-came g c = fences_came _ _ _ _ _ c.in-Fences.fences c.fences_files.result c.in-Fences.is c.fences_files.ensures.audited
 
-pub returns-in_ok-fences_files-in-Fences-clause-spared : goal.returns-in_ok-fences_files-in-Fences-clause-spared
-returns-in_ok-fences_files-in-Fences-clause-spared g c = unwritten _ _ _ c.in_ok-fences_files-in-Fences.ensures.spared
+pub returns-in-Fences-clause-leaves : goal.returns-in-Fences-clause-leaves
+returns-in-Fences-clause-leaves g c = all_left_of _ _ _ _ _ _ c.fences_files.result c.in-Fences.is c.fences_files.ensures.unfinished
 
-pub returns-in_err-fences_files-in-Fences-clause-spared : goal.returns-in_err-fences_files-in-Fences-clause-spared
-returns-in_err-fences_files-in-Fences-clause-spared g c = unwritten _ _ _ c.in_err-fences_files-in-Fences.ensures.spared
+pub returns-in-Fences-clause-outside : goal.returns-in-Fences-clause-outside
+returns-in-Fences-clause-outside g c = fences_outside _ c.in-Fences.fences c.fences_files.result c.in-Fences.is c.fences_files.ensures.outside
 
-pub returns-in_err-fences_files-in-Fences-clause-leaves : goal.returns-in_err-fences_files-in-Fences-clause-leaves
-returns-in_err-fences_files-in-Fences-clause-leaves g c = handed_up _ c.from_residual-in_err-fences_files-in-Fences.result _ c.from_residual-in_err-fences_files-in-Fences.ensures.1 (left_of _ _ _ _ _ _ _ c.in-Fences.is c.in_err-fences_files-in-Fences.ensures.unfinished)
+pub returns-in-Fences-clause-inside : goal.returns-in-Fences-clause-inside
+returns-in-Fences-clause-inside g c = fences_inside _ c.in-Fences.fences c.fences_files.result c.in-Fences.is c.fences_files.ensures.outside
 
-pub returns-in_err-fences_files-in-Fences-clause-outside : goal.returns-in_err-fences_files-in-Fences-clause-outside
-returns-in_err-fences_files-in-Fences-clause-outside g c = handed_up _ c.from_residual-in_err-fences_files-in-Fences.result _ c.from_residual-in_err-fences_files-in-Fences.ensures.1 (λ out. as_told _ _ (c.in_err-fences_files-in-Fences.ensures.outside (subst IsOutOfRange c.in-Fences.is out)) refl)
+pub returns-in-Fences-clause-beyond : goal.returns-in-Fences-clause-beyond
+returns-in-Fences-clause-beyond g c = fences_beyond _ _ _ _ c.in-Fences.fences _ c.fences_files.result c.in-Fences.is c.fences_files.ensures.told c.fences_files.ensures.unfinished
 
-pub returns-in_err-fences_files-in-Fences-clause-beyond : goal.returns-in_err-fences_files-in-Fences-clause-beyond
-returns-in_err-fences_files-in-Fences-clause-beyond g c = handed_up _ c.from_residual-in_err-fences_files-in-Fences.result _ c.from_residual-in_err-fences_files-in-Fences.ensures.1 (λ two. let it = beyond_fences _ _ _ c.in-Fences.fences _ _ c.in_err-fences_files-in-Fences.ensures.told c.in_err-fences_files-in-Fences.ensures.unfinished two in (subst IsOutOfRange (sym c.in-Fences.is) it.0, it.1))
+pub returns-in-Fences-clause-spared : goal.returns-in-Fences-clause-spared
+returns-in-Fences-clause-spared g c = unwritten _ _ _ c.fences_files.ensures.spared
 
-pub returns-in_err-fences_files-in-Fences-clause-told : goal.returns-in_err-fences_files-in-Fences-clause-told
-returns-in_err-fences_files-in-Fences-clause-told g c = handed_up _ c.from_residual-in_err-fences_files-in-Fences.result _ c.from_residual-in_err-fences_files-in-Fences.ensures.1 (told_of _ _ _ _ _ _ c.in-Fences.is c.in_err-fences_files-in-Fences.ensures.told)
+pub returns-in-Fences-clause-told : goal.returns-in-Fences-clause-told
+returns-in-Fences-clause-told g c = all_told_of _ _ _ _ _ c.fences_files.result c.in-Fences.is c.fences_files.ensures.told
 
-pub returns-in_ok-fences_files-in-Fences-clause-inside : goal.returns-in_ok-fences_files-in-Fences-clause-inside
-returns-in_ok-fences_files-in-Fences-clause-inside g c = λ out. let bad = c.in_ok-fences_files-in-Fences.ensures.outside (subst IsOutOfRange c.in-Fences.is out) in cc
+pub returns-in-Fences-clause-untouched : goal.returns-in-Fences-clause-untouched
+returns-in-Fences-clause-untouched g c = all_stay _ _ _ c.fences_files.result c.fences_files.ensures.spared
 
-pub returns-in_err-fences_files-in-Fences-clause-untouched : goal.returns-in_err-fences_files-in-Fences-clause-untouched
-returns-in_err-fences_files-in-Fences-clause-untouched g c = handed_up _ c.from_residual-in_err-fences_files-in-Fences.result _ c.from_residual-in_err-fences_files-in-Fences.ensures.1 (λ early. c.in_err-fences_files-in-Fences.ensures.spared)
-
-pub returns-in_ok-fences_files-in-Fences-clause-noted : goal.returns-in_ok-fences_files-in-Fences-clause-noted
-returns-in_ok-fences_files-in-Fences-clause-noted g c = subst (IsNoted _ _ _ _ _ _ _) (sym c.in-Fences.is) refl
+pub returns-in-Fences-clause-noted : goal.returns-in-Fences-clause-noted
+returns-in-Fences-clause-noted g c = fences_noted _ _ _ _ _ _ _ c.in-Fences.fences c.fences_files.result c.in-Fences.is refl

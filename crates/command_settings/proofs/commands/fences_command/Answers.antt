@@ -6,4 +6,5 @@ returns c =
     let machine_is = c.with_machine-command.ensures _ raw_is in
     let states_is = c.add_arg-command-2.ensures _ _ machine_is c.states.ensures.rule c.states.ensures.local in
     let window_is = c.add_arg-command-3.ensures _ _ states_is c.window.ensures.rule c.window.ensures.local in
-    c.add_arg.ensures _ _ window_is c.image.ensures.rule c.image.ensures.local
+    let allow_is = c.add_arg-command-4.ensures _ _ window_is c.allow.ensures.rule c.allow.ensures.local in
+    c.add_arg.ensures _ _ allow_is c.image.ensures.rule c.image.ensures.local

@@ -1,6 +1,6 @@
 use Rattle.std.proofs.Common.{◌≡◌, ◌∙◌, Global, List, Vec, ap, rules, sym, ℕ}
 use Rattle.std.proofs.lemmas.List.{append-nil}
-use Rattle.explore_command.specs.Allowing.{is_allowed_line, without_number}
+use Rattle.allowed_outcomes.specs.Allowing.{is_allowed_line, without_number}
 use Rattle.explore_command.proofs.Refused.{one_told}
 use Rattle.explore_command.proofs.judging.refusals_of.Goals as goal
 use Rattle.explore_command.proofs.judging.refusals_of.Goals.{else-not-has, then-not-has+in_ok-add_refusal}

@@ -1,6 +1,6 @@
 use Rattle.std.proofs.Common.{◌≡◌, ◌∙◌, ◌+◌, ◌++◌, ap, codes, length, rules}
 use Rattle.exploration_text.proofs.Joined.{joined_more}
-use Rattle.fence_audit.specs.Text.{counted}
+use Rattle.fence_audit.specs.Text.{counted, outcomes_text}
 use Rattle.fence_audit.proofs.spelling.spell_counts.Goals as goal
 
 pub returns : goal.returns
@@ -12,4 +12,4 @@ returns c =
     joined_more _ _ _ _ _ _ _ _ _ c.in_ok-extend_from_slice.ensures.items
     (c.in_ok-spell_counted.ensures ∙ ap (λ n. c.extend_from_slice.new.self.items ++ counted n (codes " orderings, ")) orderings)
     (c.in_ok-spell_counted-2.ensures ∙ ap (λ n. c.spell_counted.new.into.items ++ counted (n + 1) (codes " programs, ")) searches)
-    (c.in_ok-spell_counted-3.ensures ∙ ap (λ n. c.spell_counted-2.new.into.items ++ counted n (codes " outcomes of the program as it is\n")) outcomes)
+    (c.spell_outcomes.ensures ∙ ap (λ n. c.spell_counted-2.new.into.items ++ outcomes_text n) outcomes)

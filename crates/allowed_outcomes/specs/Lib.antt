@@ -1,0 +1,3 @@
+pub mod Allowing
+pub mod Known
+pub mod Patterns
