@@ -1,15 +1,16 @@
 //! The program `rvtl`: the command line over the system's files and streams.
 #![tactic(auto)]
 
+mod delivering;
 mod memory;
 mod streams;
 mod words;
 
+use crate::delivering::run_whole;
 use crate::memory::most_taken;
 use crate::streams::{Messages, Output};
 use crate::words::told;
 use command_files::{Remarked, SystemFiles, WithInput};
-use command_line::run_program;
 use exit_codes::code_of;
 use notes::FileNote;
 use progress_line::ProgressLine;
@@ -73,9 +74,8 @@ fn run<
     let mut out = BufWriter::new(alloc, Output::new(out, &lost))?;
     let mut err = Messages::new(err, &lost);
     let mut files = Remarked::new(WithInput::new(rt, SystemFiles::new(rt)));
-    let status = run_program(
+    let status = run_whole(
         rt,
-        alloc,
         words.as_slice(),
         &mut files,
         &mut out,

@@ -1,0 +1,55 @@
+//! The program's last write: a status that says that all was printed comes behind it.
+
+ghost use Rattle.std.specs.Prelude.{◌≡◌, ◌≢◌, ◌⊎◌, []};
+ghost use Rattle.std.specs.Io.Buffered.{writer_buffer, writer_contents};
+ghost use Rattle.std.specs.Io.KnownBytes.{Keeps};
+
+use command_files::{Fault, Files};
+use command_line::run_program;
+use progress_line::Progress;
+use std::convert::AsStr;
+use std::io::{BufWriter, Write};
+use std::sync::Wait;
+use std::thread::Threads;
+
+/// The status of what was done, and is legal and allowed.
+const DONE: u8 = 0;
+
+/// The status of what was judged, and isn't legal, or not allowed.
+const NOT_LEGAL: u8 = 3;
+
+/// Does what the words ask for, the first of which is the program's name, and answers the exit status: 0 or 3 only where
+/// all that was printed has reached the writer behind the buffer.
+pub fn run_whole<
+    R: Threads + Wait + Sync + AllocGlobal,
+    S: AsStr,
+    F: Files,
+    O: Write + Drop,
+    E: Write,
+    P: Progress + Sync,
+>(rt: &R, words: &[S], files: &mut F, out: &mut BufWriter<O>, err: &mut E, progress: &P) -> u8
+    ensures reached { (result ≡ 0) ⊎ (result ≡ 3) → writer_buffer out.new ≡ [] }
+{
+    let status = run_program(rt, rt.alloc(), words, files, out, err, progress);
+    delivered(status, out, err)
+}
+
+/// The status of a command that ended with this one, behind its last write.
+fn delivered<O: Write + Drop, E: Write>(status: u8, out: &mut BufWriter<O>, err: &mut E) -> u8
+    ensures reached { (result ≡ 0) ⊎ (result ≡ 3) → writer_buffer out.new ≡ [] }
+    ensures kept { Keeps (writer_contents O.contents out.old) (writer_contents O.contents out.new) }
+    ensures same { (result ≡ status) ⊎ ((result ≡ 1) ⊎ (result ≡ 4)) }
+    ensures faulted { status ≢ 0 → status ≢ 3 → result ≡ status }
+{
+    if status != DONE && status != NOT_LEGAL {
+        return status;
+    }
+    match out.flush() {
+        Ok(()) => status,
+        Err(error) => {
+            let fault = Fault::writing(error);
+            let _ = writeln!(err, "{fault}");
+            fault.status()
+        }
+    }
+}
