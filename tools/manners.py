@@ -304,6 +304,11 @@ def main():
             ends(f"an endless {name}", [*words, "/dev/zero"], 1,
                  ["rvtl: /dev/zero: line 1: text fault 1 Header", "note: no line ends in its first 65536 bytes"],
                  preexec_fn=lambda: resource.setrlimit(resource.RLIMIT_AS, (1 << 28, 1 << 28)))
+            zeros = subprocess.Popen(["head", "-c", "1000000", "/dev/zero"], stdout=subprocess.PIPE)
+            ends(f"a {name} of zeros through a pipe", [*words, "-"], 1,
+                 ["rvtl: -: line 1: text fault 1 Header", "note: no line ends in its first 65536 bytes"], stdin=zeros.stdout)
+            zeros.stdout.close()
+            zeros.wait()
         with open("/dev/full", "wb") as full:
             end = subprocess.run([*read_script, SCRIPT], stdout=full, stderr=subprocess.PIPE)
         told = ["rvtl: cannot write", "note: no space is left"]

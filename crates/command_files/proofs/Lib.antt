@@ -1,4 +1,5 @@
 pub mod Ended
+pub mod Filled
 pub mod Left
 pub mod Limits
 pub mod NoScript

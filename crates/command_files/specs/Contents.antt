@@ -1,5 +1,5 @@
 -- The bytes of files, where they are known.
-use Rattle.std.specs.Prelude.{◌≡◌, ◌++◌, ℕ, ◌==◌, false, List, Option, Some, None, IfSome, length}
+use Rattle.std.specs.Prelude.{◌≡◌, ◌++◌, ℕ, ◌==◌, Bool, false, List, Option, Some, None, IfSome, bytes_eq, codes, if◌then◌else◌, length}
 use Rattle.std.specs.List.{list_any}
 
 -- the bytes of the file of each name, where they are known
@@ -18,3 +18,15 @@ HoldsBytes held name bytes = IfSome (held name) (λ known. known ≡ bytes)
 -- no line ends in the first 65536 bytes of the file, where they are known
 abbrev pub HasLongFirstLine : Contents → List ℕ → Type 0
 HasLongFirstLine held name = IfSome (held name) (λ known. (first : List ℕ) × (rest : List ℕ) × (known ≡ first ++ rest) × (length first ≡ 65536) × (list_any (λ byte. byte == 10) first ≡ false))
+
+-- the name under which standard input is read
+abbrev pub is_input : List ℕ → Bool
+is_input name = bytes_eq name (codes "-")
+
+-- what the files hold; standard input's bytes aren't known
+abbrev pub beside_input : Contents → Contents
+beside_input held name = if is_input name then None else held name
+
+-- standard input has a path too
+abbrev pub path_of : List ℕ → List ℕ
+path_of name = if is_input name then codes "/dev/stdin" else name

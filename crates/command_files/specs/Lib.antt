@@ -4,6 +4,7 @@ pub mod Faults
 pub mod Files
 pub mod Contents
 pub mod Sizes
+pub mod Sources
 pub mod Status
 pub use Rattle.event_stream.specs.declared.strictness.Strictness
 pub use Rattle.event_stream.specs.declared.strictness.Strictness.TheVariants

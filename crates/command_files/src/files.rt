@@ -1,6 +1,6 @@
 //! Where the program's files come from, and where it makes one.
 
-ghost use Rattle.std.specs.Prelude.{◌≡◌, ◌≢◌, ℕ, IfOk, List, None, OnOk, Option};
+ghost use Rattle.std.specs.Prelude.{◌≡◌, ◌≢◌, ℕ, IfOk, List, None, OnOk, Option, true};
 ghost use Rattle.command_files.specs.Contents.{IsUnread, HoldsBytes};
 
 use std::io::{self, Read};
@@ -12,6 +12,9 @@ pub trait Files {
     // The bytes of the file of each name, where they are known.
     ghost held: { Self → List ℕ → Option (List ℕ) } = { λ _ _. None };
 
+    // Which names are known to be of one file.
+    ghost are_one: { List ℕ → List ℕ → Type 0 } = { λ one other. one ≡ other };
+
     /// Opens a file for reading.
     fn open(&mut self, name: &str) -> io::Result<Self::Reader>
         ensures reader { IfOk result (λ reader. IsUnread (held self.old name.now) (Self.Reader.remaining reader)) }
@@ -19,6 +22,7 @@ pub trait Files {
 
     /// Whether the two names are of one file, as far as that can be told.
     fn are_same(&mut self, one: &str, other: &str) -> bool
+        ensures told { are_one one.now other.now → result ≡ true }
         ensures stays { held self.new ≡ held self.old }
     {
         one == other

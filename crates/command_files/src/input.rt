@@ -1,5 +1,8 @@
 //! Standard input as a file.
 
+ghost use Rattle.std.specs.Prelude.{◌≡◌, OnOk, false};
+ghost use Rattle.command_files.specs.Contents.{is_input, path_of};
+
 use crate::files::Files;
 use std::io::{self, ErrorKind, Input, Read};
 
@@ -34,6 +37,10 @@ pub enum Source<F: Drop, I: Drop> {
 }
 
 impl<F: Read + Drop, I: Read + Drop> Read for Source<F, I> {
+    ghost use Rattle.command_files.specs.Sources.{source_remaining};
+
+    ghost remaining = { source_remaining F.remaining I.remaining };
+
     fn read(&mut self, buf: &mut [u8]) -> io::Result<usize> {
         match self {
             Source::File(file) => file.read(buf),
@@ -44,6 +51,13 @@ impl<F: Read + Drop, I: Read + Drop> Read for Source<F, I> {
 
 impl<R: Input, F: Files + Drop> Files for WithInput<'_, R, F> {
     type Reader = Source<F::Reader, R::Reader>;
+
+    ghost use Rattle.command_files.specs.Contents.{beside_input, path_of};
+
+    // What standard input has the system doesn't tell.
+    ghost held = { λ w. beside_input (F.held w.files) };
+
+    ghost are_one = { λ one other. F.are_one (path_of one) (path_of other) };
 
     fn open(&mut self, name: &str) -> io::Result<Source<F::Reader, R::Reader>> {
         if name != NAME {
@@ -77,12 +91,16 @@ impl<R: Input, F: Files + Drop> Files for WithInput<'_, R, F> {
 }
 
 /// The path of the file of this name: standard input has one too.
-fn path_of(name: &str) -> &str {
+fn path_of(name: &str) -> &str
+    ensures { result.now ≡ path_of name.now }
+{
     if name == NAME { "/dev/stdin" } else { name }
 }
 
 /// Refuses to write standard input.
-fn refuse_input(name: &str) -> io::Result<()> {
+fn refuse_input(name: &str) -> io::Result<()>
+    ensures { OnOk result (is_input name.now ≡ false) }
+{
     if name == NAME {
         let message = "standard input is not written";
         return Err(io::Error::new(ErrorKind::InvalidInput, message));

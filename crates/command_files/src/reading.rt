@@ -1,8 +1,8 @@
 //! What files hold: their bytes, a script, an image.
 
-ghost use Rattle.std.specs.Prelude.{◌≡◌, ◌==◌, ◌*◌, ◌⊎◌, ◌↔◌, IfErr, IfOk, IsErrOf, Ok, false, length, true};
+ghost use Rattle.std.specs.Prelude.{◌≡◌, ◌==◌, ◌*◌, ◌⊎◌, ◌↔◌, ◌<◌, ◌≤◌, IfErr, IfOk, IsErrOf, Ok, false, length, take, true};
 ghost use Rattle.std.specs.List.{list_any};
-ghost use Rattle.std.specs.Io.KnownBytes.{Consumes};
+ghost use Rattle.std.specs.Io.KnownBytes.{Consumes, IsAtEnd};
 ghost use Rattle.std.specs.IoError.{error_kind};
 ghost use Rattle.elf_loader.specs.Size.{IsMemoryKib, IsMemorySize};
 ghost use Rattle.command_files.specs.Faults.{IsImageFault, IsLoadFault, IsReadFault, IsScriptFault, IsTextFault};
@@ -45,7 +45,25 @@ impl<R: Read + Drop> Opened<R> {
     }
 }
 
-/// Opens a file, and reads of it what one read of at most `FIRST` bytes gives.
+/// Reads until the buffer is full, or the reader at its end: of a pipe as much as of a file. How many bytes it read.
+fn fill<R: Read>(reader: &mut R, buffer: &mut [u8]) -> io::Result<usize>
+    ensures within { IfOk result (λ count. count ≤ length buffer.new) }
+    ensures room { length buffer.new ≡ length buffer.old }
+    ensures read { IfOk result (λ count. Consumes (R.remaining reader.old) (R.remaining reader.new) (take count buffer.new)) }
+    ensures end { IfOk result (λ count. count < length buffer.new → IsAtEnd (R.remaining reader.new)) }
+{
+    let mut count = 0;
+    while count < buffer.len() {
+        match reader.read(&mut buffer[count..]) {
+            Ok(0) => return Ok(count),
+            Ok(more) => count += more,
+            Err(error) => return Err(error),
+        }
+    }
+    Ok(count)
+}
+
+/// Opens a file, and reads its first `FIRST` bytes, or all where it has fewer.
 fn open<'a, F: Files>(
     alloc: Global,
     files: &mut F,
@@ -63,7 +81,7 @@ fn open<'a, F: Files>(
     let Ok(()) = bytes.resize(FIRST, 0) else {
         return Err(Fault::OutOfMemory);
     };
-    match reader.read(&mut bytes) {
+    match fill(&mut reader, &mut bytes) {
         Ok(count) => {
             bytes.truncate(count);
             Ok(Opened { bytes, reader })

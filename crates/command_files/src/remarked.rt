@@ -43,6 +43,8 @@ impl<F: Files + Drop> Files for Remarked<F> {
 
     ghost held = { λ r. F.held r.files };
 
+    ghost are_one = { F.are_one };
+
     fn open(&mut self, name: &str) -> io::Result<F::Reader> {
         self.files.open(name)
     }

@@ -1,7 +1,7 @@
 //! `rvtl run`: a program runs with a thread for each hart, what happened is kept as a script, and the
 //! trace printed.
 
-ghost use Rattle.std.specs.Prelude.{◌≡◌, ◌≢◌, ◌⊎◌, ℕ, Err, IfErr, List, OnErr, OnOk};
+ghost use Rattle.std.specs.Prelude.{◌≡◌, ◌≢◌, ◌⊎◌, ℕ, Err, IfErr, IsErr, List, OnErr, OnOk};
 ghost use Rattle.std.specs.Io.KnownBytes.{Appends};
 ghost use Rattle.command_files.specs.Contents.{HoldsBytes};
 ghost use Rattle.run_command.specs.Running.{ComesBeforeJournal, IsRun, IsRunCutOff, IsRunEndTold, run_fault};
@@ -93,6 +93,7 @@ pub fn run_files<'a, R: Threads + Wait + Sync, F: Files, O: Write, E: Write, P: 
         (IsRunCutOff (F.held files.old) (F.held files.new) wanted.entry (O.contents out.old) (O.contents out.new))) }
     ensures spared { (other : List ℕ) → other ≢ wanted.entry.journal.now → F.held files.new other ≡ F.held files.old other }
     ensures image { F.held files.new wanted.entry.image.now ≡ F.held files.old wanted.entry.image.now }
+    ensures one_file { F.are_one wanted.entry.image.now wanted.entry.journal.now → IsErr result × (F.held files.new ≡ F.held files.old) }
     ensures untouched { IfErr result (λ fault. ComesBeforeJournal fault → F.held files.new ≡ F.held files.old) }
 {
     every_trace_has_a_text();
@@ -142,6 +143,7 @@ fn check_journal<'a, F: Files>(
     journal: &'a str,
 ) -> Result<(), Fault<'a>>
     ensures apart { OnOk result (image.now ≢ journal.entry.now) }
+    ensures two_files { OnOk result (¬ F.are_one image.now journal.entry.now) }
     ensures told { IfErr result (λ fault. (fault ≡ Fault.CannotMake journal.entry) ⊎ (fault ≡ Fault.OutOfMemory)) }
     ensures stays { F.held files.new ≡ F.held files.old }
 {
@@ -159,6 +161,7 @@ fn spare_image<'a, F: Files>(
     journal: &'a str,
 ) -> Result<(), Fault<'a>>
     ensures apart { OnOk result (image.now ≢ journal.entry.now) }
+    ensures two_files { OnOk result (¬ F.are_one image.now journal.entry.now) }
     ensures told { IfErr result (λ fault. fault ≡ Fault.CannotMake journal.entry) }
     ensures stays { F.held files.new ≡ F.held files.old }
 {

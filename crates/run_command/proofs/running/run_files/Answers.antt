@@ -162,3 +162,12 @@ returns-in_err-print-clause-image g c = c.keep.ensures.others c.args.wanted.imag
 
 pub returns-clause-image : goal.returns-clause-image
 returns-clause-image g c = c.keep.ensures.others c.args.wanted.image.now c.in_ok-check_journal.ensures.apart ∙ ap (λ (h : Contents). h c.args.wanted.image.now) (c.remark_ends.ensures.stays ∙ (c.check_journal.ensures.stays ∙ c.in_ok-image.ensures.stays))
+
+pub returns-in_err-keep-clause-one_file : goal.returns-in_err-keep-clause-one_file
+returns-in_err-keep-clause-one_file g c = λ same. absurd (c.in_ok-check_journal.ensures.two_files same)
+
+pub returns-in_err-print-clause-one_file : goal.returns-in_err-print-clause-one_file
+returns-in_err-print-clause-one_file g c = λ same. absurd (c.in_ok-check_journal.ensures.two_files same)
+
+pub returns-clause-one_file : goal.returns-clause-one_file
+returns-clause-one_file g c = λ same. absurd (c.in_ok-check_journal.ensures.two_files same)
