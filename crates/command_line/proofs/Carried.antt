@@ -7,27 +7,23 @@ use Rattle.command_files.specs.Faults.{LeavesAtFault}
 use Rattle.command_files.specs.Status.{status_of}
 use Rattle.command_files.specs.declared.fault.Fault.{Fault}
 use Rattle.command_line.proofs.Meant.{beyond_explore, beyond_fences, beyond_show, written}
-use Rattle.command_line.specs.Running.{Came, CheckCame, CheckNoted, ExploreCame, IsOutOfRange, IsDone, IsExploreFile, IsFaulty, IsNoted, IsWritten, ShowCame, strictness_of}
+use Rattle.command_line.specs.Running.{Came, CheckCame, CheckNoted, ExploreCame, IsOutOfRange, IsDone, IsExploreFile, IsFaulty, IsNoted, IsWritten, ShowCame}
 use Rattle.command_settings.specs.declared.wanted.Check.{Check as Judging}
-use Rattle.command_settings.specs.declared.wanted.Explain.{Explain as Telling}
 use Rattle.command_settings.specs.declared.wanted.Explore.{Explore as Sought}
 use Rattle.command_settings.specs.declared.wanted.Fences.{Fences as Audited}
 use Rattle.command_settings.specs.declared.wanted.Settings.{Settings}
 use Rattle.command_settings.specs.declared.wanted.Show.{Show as Shown}
-use Rattle.command_settings.specs.declared.wanted.Settings.TheVariants.{Check, Explain, Explore, Fences, Show}
-use Rattle.command_files.specs.Strictness.{Strictness}
+use Rattle.command_settings.specs.declared.wanted.Settings.TheVariants.{Check, Explore, Fences, Show}
 use Rattle.command_line.specs.Telling.{ComesBeforeFiles, IsFaultOfCommand, IsShowingFault}
-use Rattle.trace_commands.specs.Kinds.{IsTellingFault, IsTold}
 use Rattle.fences_command.specs.Fencing.{IsAuditTold, IsFencesFault}
 use Rattle.explore_command.specs.Exploring.{IsExploreFault, LeavesPart}
 use Rattle.explore_command.specs.Keeping.{SparesOthers}
 use Rattle.explore_command.specs.declared.judging.Judgement.{Judgement}
 use Rattle.explore_command.specs.declared.judging.Judgement.TheVariants.{Allowed, NotAllowed}
 
-pub explained : (held left : Contents) (old new : Option (List ℕ)) (wanted : Settings) (explain : Telling) (strictness : Strictness) → wanted ≡ Explain explain → strictness ≡ strictness_of explain.strict
-    → IsTold held explain.replay strictness explain.state old new → IsDone held left old new wanted
-explained held left old new wanted explain strictness is is_strict told =
-    subst (IsDone held left old new) (sym is) (subst (λ s. IsTold held explain.replay s explain.state old new) is_strict told)
+pub if_err : {T : Type 0} (P Q : Fault → Type 0) (r : Result T Fault) → ((fault : Fault) → P fault → Q fault) → IfErr r P → IfErr r Q
+if_err P Q (Ok x) law so = tt
+if_err P Q (Err fault) law so = law fault so
 
 module _ (held left : Contents) (old new : Option (List ℕ)) (wanted : Settings) where
   pub explore_came : (explore : Sought) (r : Result Judgement Fault) → wanted ≡ Explore explore
@@ -74,10 +70,6 @@ told_of held old new wanted meant fault is so = subst (λ w. IsFaultOfCommand he
 pub all_told_of : (held : Contents) (old new : Option (List ℕ)) (wanted meant : Settings) (r : Result Judgement Fault) → wanted ≡ meant → IfErr r (IsFaultOfCommand held old new meant) → IfErr r (IsFaultOfCommand held old new wanted)
 all_told_of held old new wanted meant (Ok judgement) is so = tt
 all_told_of held old new wanted meant (Err fault) is so = told_of held old new wanted meant fault is so
-
-pub explain_told : (held : Contents) (old new : Option (List ℕ)) (explain : Telling) (strictness : Strictness) (fault : Fault) → strictness ≡ strictness_of explain.strict
-    → IsTellingFault held explain.replay strictness old new fault → IsTellingFault held explain.replay (strictness_of explain.strict) old new fault
-explain_told held old new explain strictness fault is_strict so = subst (λ s. IsTellingFault held explain.replay s old new fault) is_strict so
 
 pub explore_beyond : (held : Contents) (old new : Option (List ℕ)) (wanted : Settings) (explore : Sought) (Has : (List ℕ → Type 0) → Type 0) (r : Result Judgement Fault) → wanted ≡ Explore explore → IfErr r (IsExploreFault held explore)
     → IfErr r (λ fault. LeavesPart fault old new Has) → IfErr r (λ fault. status_of fault ≡ 2 → IsOutOfRange wanted × (new ≡ old))

@@ -13,18 +13,14 @@ use Rattle.command_files.specs.declared.fault.Fault.{Fault}
 use Rattle.command_files.specs.declared.fault.Fault.TheVariants.{BadAddress, CannotShow, Configuration}
 use Rattle.command_files.specs.declared.fault.Unshown.TheVariants.{Elsewhere}
 use Rattle.command_line.proofs.StreamLeft.{stream_either}
-use Rattle.command_line.specs.Running.{ExploreHas, IsHalfPrinted, IsOutOfRange, ShowHas, ShowsElsewhere, strictness_of}
-use Rattle.command_line.specs.Telling.{LeavesOf}
+use Rattle.command_line.specs.Running.{ExploreHas, IsHalfPrinted, IsOutOfRange, ShowHas, ShowsElsewhere}
+use Rattle.command_line.specs.Telling.{LeavesOf, LeavesOfExplaining}
 use Rattle.command_settings.specs.declared.wanted.Check.{Check as Judging}
-use Rattle.command_settings.specs.declared.wanted.Explain.{Explain as Telling}
 use Rattle.command_settings.specs.declared.wanted.Explore.{Explore as Sought}
 use Rattle.command_settings.specs.declared.wanted.Fences.{Fences as Audited}
 use Rattle.command_settings.specs.declared.wanted.Settings.{Settings}
 use Rattle.command_settings.specs.declared.wanted.Settings.TheVariants.{Chart, Check, Explain, Explore, Fences, Page, Replay, Run, Show}
 use Rattle.command_settings.specs.declared.wanted.Show.{Show as Shown}
-use Rattle.command_files.specs.Strictness.{Strictness}
-use Rattle.script_commands.specs.Explaining.{LeavesOfStream}
-use Rattle.trace_commands.specs.Kinds.{IsHalfTold}
 use Rattle.trace_commands.specs.Pages.{IsHalfPaged, LeavesOfPage}
 use Rattle.command_settings.specs.declared.wanted.Replay.{Replay as Played}
 use Rattle.explore_command.proofs.Explored.{all_of}
@@ -35,10 +31,10 @@ use Rattle.text_fields.specs.Writing.{Begins}
 
 -- ---- what is left
 
-pub stream_left : (held : Contents) (old new : Option (List ℕ)) (explain : Telling) (strictness : Strictness) (fault : Fault) → strictness ≡ strictness_of explain.strict
-    → LeavesOfStream fault old new (IsHalfTold held explain.replay strictness explain.state old new)
-    → LeavesOfStream fault old new (IsHalfTold held explain.replay (strictness_of explain.strict) explain.state old new)
-stream_left held old new explain strictness fault is so = subst (λ s. LeavesOfStream fault old new (IsHalfTold held explain.replay s explain.state old new)) is so
+-- of an explanation too nothing is left, or a beginning
+explain_either : (vcd : Bool) (old new : Option (List ℕ)) (broken : Type 0) (fault : Fault) → LeavesOfExplaining vcd fault old new broken → (new ≡ old) ⊎ broken
+explain_either true old new broken fault so = either old new broken fault so
+explain_either false old new broken fault so = stream_either old new broken fault so
 
 -- of a page a beginning, or the page with a part of what is told, or none
 page_either : (held : Contents) (replay : Played) (old new : Option (List ℕ)) (fault : Fault) → LeavesOfPage held replay old new fault → IsHalfPaged held replay old new
@@ -66,7 +62,7 @@ module _ (held left : Contents) (old new : Option (List ℕ)) where
   -- that is nothing, or no more than a beginning
   pub either_of : (wanted : Settings) (fault : Fault) → LeavesOf held left old new wanted fault → (new ≡ old) ⊎ IsHalfPrinted held left old new wanted
   either_of (Replay replay) fault so = either old new _ fault so
-  either_of (Explain explain) fault so = stream_either old new _ fault so
+  either_of (Explain explain) fault so = explain_either explain.vcd old new _ fault so
   either_of (Run run) fault so = either old new _ fault so
   either_of (Explore explore) fault so = some_part old new (ExploreHas explore.architecture (nat_lt 0 explore.sample) held explore) fault (search_begins explore.architecture (nat_lt 0 explore.sample) explore) so
   either_of (Show show) fault so = some_part old new (ShowHas show.explore.architecture held show) fault (words_begin show.explore.architecture show) so

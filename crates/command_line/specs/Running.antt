@@ -4,6 +4,7 @@ use Rattle.clap.specs.Words.{Text}
 use Rattle.command_files.specs.Contents.{Contents}
 use Rattle.script_commands.specs.Replaying.{IsCutOff, IsReplayEndTold, IsReplayed}
 use Rattle.trace_commands.specs.Pages.{IsHalfPaged, IsPaged}
+use Rattle.script_commands.specs.Waving.{AreTold, AreWavesCutOff}
 use Rattle.trace_commands.specs.Kinds.{IsHalfTold, IsTold}
 use Rattle.fences_command.specs.Fencing.{IsAuditCutOff, IsAuditTold}
 use Rattle.explore_command.specs.Exploring.{ExplorationHas, ExplorationRefusals, IsExplorationTold}
@@ -24,6 +25,7 @@ use Rattle.command_settings.specs.Refusals.{IsFitting, IsForHelp}
 use Rattle.command_settings.specs.Settings.{AreConflicting, IsNamed, asks_tilelink}
 use Rattle.command_files.specs.Sizes.{IsOutside}
 use Rattle.command_settings.specs.declared.wanted.Check.{Check as Judging}
+use Rattle.command_settings.specs.declared.wanted.Explain.{Explain as Telling}
 use Rattle.command_settings.specs.declared.wanted.Explore.{Explore as Seeking}
 use Rattle.command_settings.specs.declared.wanted.Settings.{Settings}
 use Rattle.command_settings.specs.declared.wanted.Settings.TheVariants.{Chart, Check, Explain, Explore, Fences, Page, Replay, Run, Show}
@@ -103,10 +105,20 @@ abbrev pub IsExploreFile : (architecture : Bool) → Seeking → Text → Type 0
 IsExploreFile true explore = IsFileInNamed explore.scripts
 IsExploreFile false explore = IsScriptFile explore.scripts
 
--- the script was replayed and its trace printed, or what each of its events did and, where that is wanted, what the machine holds at the end, a picture of it, or a page that shows it; or what is told of a trace's order was printed; the program ran and its journal was kept and its trace printed; it was explored and each outcome is allowed; which of its orderings it needs was printed; or the trace's order is legal, or its messages
+-- what each event of a script changed was told as waves, or what it did, or what a trace's order is
+abbrev pub ExplainCame : (vcd : Bool) → Contents → Telling → Option (List ℕ) → Option (List ℕ) → Type 0
+ExplainCame true held explain old new = AreTold held explain.replay old new
+ExplainCame false held explain old new = IsTold held explain.replay (strictness_of explain.strict) explain.state old new
+
+-- no more than a beginning of it went out
+abbrev pub ExplainBroke : (vcd : Bool) → Contents → Telling → Option (List ℕ) → Option (List ℕ) → Type 0
+ExplainBroke true held explain old new = AreWavesCutOff held explain.replay old new
+ExplainBroke false held explain old new = IsHalfTold held explain.replay (strictness_of explain.strict) explain.state old new
+
+-- the script was replayed and its trace printed, or what each of its events did and, where that is wanted, what the machine holds at the end, or what each changed as waves, a picture of it, or a page that shows it; or what is told of a trace's order was printed; the program ran and its journal was kept and its trace printed; it was explored and each outcome is allowed; which of its orderings it needs was printed; or the trace's order is legal, or its messages
 abbrev pub IsDone : Contents → Contents → Option (List ℕ) → Option (List ℕ) → Settings → Type 0
 IsDone held left old new (Replay replay) = IsReplayed held replay old new
-IsDone held left old new (Explain explain) = IsTold held explain.replay (strictness_of explain.strict) explain.state old new
+IsDone held left old new (Explain explain) = ExplainCame explain.vcd held explain old new
 IsDone held left old new (Run run) = IsRun held left run old new
 IsDone held left old new (Explore explore) = ExploreCame explore.architecture (nat_lt 0 explore.sample) Allowed held left explore old new
 IsDone held left old new (Show show) = ShowCame show.explore.architecture Allowed held left show old new
@@ -163,7 +175,7 @@ Came held left old new wanted NotAllowed = IsFaulty held left old new wanted
 -- no more than a beginning of what was to be printed went out: of a stream, all that stands before the event at which it ends
 abbrev pub IsHalfPrinted : Contents → Contents → Option (List ℕ) → Option (List ℕ) → Settings → Type 0
 IsHalfPrinted held left old new (Replay replay) = IsCutOff held replay old new
-IsHalfPrinted held left old new (Explain explain) = IsHalfTold held explain.replay (strictness_of explain.strict) explain.state old new
+IsHalfPrinted held left old new (Explain explain) = ExplainBroke explain.vcd held explain old new
 IsHalfPrinted held left old new (Run run) = IsRunCutOff held left run old new
 IsHalfPrinted held left old new (Explore explore) = ExploreHas explore.architecture (nat_lt 0 explore.sample) held explore (Begins old new)
 IsHalfPrinted held left old new (Show show) = ShowHas show.explore.architecture held show (Begins old new)

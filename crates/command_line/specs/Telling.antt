@@ -12,6 +12,7 @@ use Rattle.command_files.specs.declared.fault.Fault.{Fault}
 use Rattle.command_line.specs.Running.{AreMisused, ExploreHas, HasNamed, ShowHas, IsHalfPrinted, strictness_of}
 use Rattle.command_settings.specs.Refusals.{IsForHelp}
 use Rattle.command_settings.specs.declared.wanted.Check.{Check as Judging}
+use Rattle.command_settings.specs.declared.wanted.Explain.{Explain as Telling}
 use Rattle.command_settings.specs.declared.wanted.Settings.{Settings}
 use Rattle.command_settings.specs.declared.wanted.Settings.TheVariants.{Chart, Check, Explain, Explore, Fences, Page, Replay, Run, Show}
 use Rattle.command_settings.specs.declared.wanted.Show.{Show as Showing}
@@ -33,10 +34,20 @@ abbrev pub IsShowingFault : (architecture : Bool) → Contents → Showing → F
 IsShowingFault true held show = IsSearchFault held show.explore show.words.items
 IsShowingFault false held show = IsShowFault held show
 
+-- what a script's events change can't be told as waves, or what they do, or a trace's order
+abbrev pub IsExplainingFault : (vcd : Bool) → Contents → Option (List ℕ) → Option (List ℕ) → Telling → Fault → Type 0
+IsExplainingFault true held old new explain = IsReplayFault held explain.replay
+IsExplainingFault false held old new explain = IsTellingFault held explain.replay (strictness_of explain.strict) old new
+
+-- before waves' first fault nothing is left, but of a stream what comes before it
+abbrev pub LeavesOfExplaining : (vcd : Bool) → Fault → Option (List ℕ) → Option (List ℕ) → Type 0 → Type 0
+LeavesOfExplaining true fault old new broken = LeavesAtFault fault old new broken
+LeavesOfExplaining false fault old new broken = LeavesOfStream fault old new broken
+
 -- each command says which faults it has, of which file, and what that file then holds
 abbrev pub IsFaultOfCommand : Contents → Option (List ℕ) → Option (List ℕ) → Settings → Fault → Type 0
 IsFaultOfCommand held old new (Replay replay) = IsReplayFault held replay
-IsFaultOfCommand held old new (Explain explain) = IsTellingFault held explain.replay (strictness_of explain.strict) old new
+IsFaultOfCommand held old new (Explain explain) = IsExplainingFault explain.vcd held old new explain
 IsFaultOfCommand held old new (Run run) = IsRunFault held run
 IsFaultOfCommand held old new (Explore explore) = IsExploreFault held explore
 IsFaultOfCommand held old new (Show show) = IsShowingFault show.explore.architecture held show
@@ -47,7 +58,7 @@ IsFaultOfCommand held old new (Check check) = IsJudgingFault check.messages held
 
 -- each command says what its faults leave on standard output
 abbrev pub LeavesOf : Contents → Contents → Option (List ℕ) → Option (List ℕ) → Settings → Fault → Type 0
-LeavesOf held left old new (Explain explain) fault = LeavesOfStream fault old new (IsHalfPrinted held left old new (Explain explain))
+LeavesOf held left old new (Explain explain) fault = LeavesOfExplaining explain.vcd fault old new (IsHalfPrinted held left old new (Explain explain))
 LeavesOf held left old new (Explore explore) fault = LeavesPart fault old new (ExploreHas explore.architecture (nat_lt 0 explore.sample) held explore)
 LeavesOf held left old new (Show show) fault = LeavesPart fault old new (ShowHas show.explore.architecture held show)
 LeavesOf held left old new (Replay replay) fault = LeavesAtFault fault old new (IsHalfPrinted held left old new (Replay replay))

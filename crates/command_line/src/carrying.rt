@@ -1,27 +1,27 @@
 //! What the words ask for is carried out, command by command.
 
-ghost use Rattle.std.specs.Prelude.{◌≡◌, ◌≢◌, ◌⊎◌, ◌<◌, Err, IfErr, IfOk, nat_lt};
+ghost use Rattle.std.specs.Prelude.{◌≡◌, ◌≢◌, ◌⊎◌, ◌<◌, Err, IfErr, IfOk, OnOk, nat_lt};
 ghost use Rattle.clap.specs.Words.{Text};
 ghost use Rattle.command_files.specs.Faults.{LeavesAtFault, Name};
 ghost use Rattle.command_files.specs.Sizes.{IsOutside};
 ghost use Rattle.command_files.specs.Status.{status_of};
 ghost use Rattle.command_settings.specs.Settings.{asks_tilelink};
-ghost use Rattle.command_line.specs.Telling.{ComesBeforeFiles, IsFaultOfCommand, IsJudgingFault, IsShowingFault, LeavesOf};
-ghost use Rattle.command_line.specs.Running.{Came, CheckCame, CheckNoted, ExploreCame, ExploreHas, ExploreNoted, MeetsSomeState, IsOutOfRange, IsCheckBroken, IsExploreFile, IsNoted, IsWritten, ShowCame, ShowHas, ShowNoted, ShowsElsewhere, profile_of, strictness_of};
+ghost use Rattle.command_line.specs.Telling.{ComesBeforeFiles, IsExplainingFault, IsFaultOfCommand, IsJudgingFault, IsShowingFault, LeavesOf, LeavesOfExplaining};
+ghost use Rattle.command_line.specs.Running.{Came, CheckCame, CheckNoted, ExplainBroke, ExplainCame, ExploreCame, ExploreHas, ExploreNoted, MeetsSomeState, IsOutOfRange, IsCheckBroken, IsExploreFile, IsNoted, IsWritten, ShowCame, ShowHas, ShowNoted, ShowsElsewhere, profile_of, strictness_of};
 ghost use Rattle.explore_command.specs.Exploring.{ComesBeforeScripts, IsExploreFault, LeavesPart};
 ghost use Rattle.explore_command.specs.Keeping.{SparesOthers};
 ghost use Rattle.explore_command.specs.Showing.{IsFirstOf};
 
 use command_files::event_stream::Strictness;
 use command_files::{Fault, Files, Unshown};
-use command_settings::{Check, Explore, Settings, Show};
+use command_settings::{Check, Explain, Explore, Settings, Show};
 use explore_command::{Judgement, architecture_files, explore_files, sample_files, show_files};
 use fences_command::fences_files;
 use message_judge::{MessageVerdict, Profile};
 use progress_line::Progress;
 use run_command::run_files;
 use rvwmo_order::Verdict;
-use script_commands::{chart_files, replay_files};
+use script_commands::{chart_files, replay_files, wave_files};
 use std::alloc::Global;
 use std::io::Write;
 use std::sync::Wait;
@@ -64,8 +64,7 @@ pub(crate) fn carry_out<
             Ok(Judgement::Allowed)
         }
         Settings::Explain(explain) => {
-            let strictness = strictness_of(explain.strict);
-            explain_files(alloc, files, explain.replay, strictness, explain.state, out)?;
+            explained(alloc, files, explain, out)?;
             Ok(Judgement::Allowed)
         }
         Settings::Chart(chart) => {
@@ -85,6 +84,27 @@ pub(crate) fn carry_out<
         Settings::Fences(fences) => fences_files(alloc, files, fences, out, progress),
         Settings::Check(check) => checked(alloc, files, check, out, err),
     }
+}
+
+/// A script's events are told, or as waves what they change; or a trace's order.
+fn explained<'a, F: Files, O: Write>(
+    alloc: Global,
+    files: &mut F,
+    wanted: Explain<'a>,
+    out: &mut O,
+) -> Result<(), Fault<'a>>
+    ensures came { OnOk result (ExplainCame wanted.entry.vcd (F.held files.old) wanted.entry (O.contents out.old) (O.contents out.new)) }
+    ensures unfinished { IfErr result (λ fault. LeavesOfExplaining wanted.entry.vcd fault (O.contents out.old) (O.contents out.new)
+        (ExplainBroke wanted.entry.vcd (F.held files.old) wanted.entry (O.contents out.old) (O.contents out.new))) }
+    ensures told { IfErr result (IsExplainingFault wanted.entry.vcd (F.held files.old) (O.contents out.old) (O.contents out.new) wanted.entry) }
+    ensures fitting { IfErr result (λ fault. status_of fault ≢ 2) }
+    ensures spared { F.held files.new ≡ F.held files.old }
+{
+    if wanted.vcd {
+        return wave_files(alloc, files, wanted.replay, out);
+    }
+    let strictness = strictness_of(wanted.strict);
+    explain_files(alloc, files, wanted.replay, strictness, wanted.state, out)
 }
 
 /// The program's ends are looked for, by random runs, or under the memory model.

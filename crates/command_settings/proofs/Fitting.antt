@@ -42,8 +42,8 @@ replay_ready names = record {
 
 explain_ready : (names : ModelNames) → IsReady names explain
 explain_ready names = record {
-  sound = ((refl, tt), ((refl, tt), ((refl, tt), ((refl, tt), ((refl, tt), ((refl, tt), tt))))));
-  built = (1, refl, (1, refl, (1, refl, (1, refl, (1, refl, (2, refl, (3, refl)))))));
+  sound = ((refl, tt), ((refl, tt), ((refl, tt), ((refl, tt), ((refl, tt), ((refl, tt), ((refl, tt), tt)))))));
+  built = (1, refl, (1, refl, (1, refl, (1, refl, (1, refl, (1, refl, (2, refl, (3, refl))))))));
   named = refl;
   alone = refl;
   no_override = refl;

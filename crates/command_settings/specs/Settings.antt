@@ -69,6 +69,7 @@ pub record IsExplainMeant (rows : List Row) (explain : Explain) : Type 0 where
   pub replay : IsReplayMeant rows explain.replay
   pub strict : IsFlag (codes "strict") rows explain.strict
   pub state : IsFlag (codes "state") rows explain.state
+  pub vcd : IsFlag (codes "vcd") rows explain.vcd
 
 -- the arguments of `chart` have these texts
 pub record IsChartMeant (rows : List Row) (chart : Chart) : Type 0 where

@@ -97,9 +97,9 @@ most_limit = 1000000000
 abbrev pub replay_arguments : List Argument
 replay_arguments = flag (codes "raw") ∷ model ∷ file (codes "IMAGE") ∷ file (codes "SCRIPT") ∷ []
 
--- `[--strict] [--state]` and those of a replay
+-- `[--strict] [--state] [--vcd]` and those of a replay
 abbrev pub explain_arguments : List Argument
-explain_arguments = flag (codes "strict") ∷ flag (codes "state") ∷ replay_arguments
+explain_arguments = flag (codes "strict") ∷ flag (codes "state") ∷ flag (codes "vcd") ∷ replay_arguments
 
 -- `[--line ADDRESS]` and those of a replay
 abbrev pub chart_arguments : List Argument

@@ -98,7 +98,8 @@ fn explain_command<'a>(alloc: Global, models: &'a [&'a str]) -> Result<Command<'
     let about = "Applies a script of events to a machine and prints what each event did";
     let command = described(alloc, "explain", about, EXPLAIN_HELP);
     let command = add_arg(Ok(command), strict(alloc));
-    with_replay(alloc, models, add_arg(command, state(alloc)))
+    let command = add_arg(command, state(alloc));
+    with_replay(alloc, models, add_arg(command, vcd(alloc)))
 }
 
 fn chart_command<'a>(alloc: Global, models: &'a [&'a str]) -> Result<Command<'a>, AllocError>
@@ -443,6 +444,17 @@ fn state<'a>(alloc: Global) -> Arg<'a>
         alloc,
         "state",
         "print behind the stream what the machine holds at its end",
+    )
+}
+
+fn vcd<'a>(alloc: Global) -> Arg<'a>
+    ensures rule { rule_of result ≡ flag_rule (codes "vcd") }
+    ensures local { result.global ≡ false }
+{
+    flag(
+        alloc,
+        "vcd",
+        "print what each event changed as a value change dump, for a viewer of waves",
     )
 }
 

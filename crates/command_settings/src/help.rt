@@ -88,6 +88,19 @@ and then of memory's lines
   G HART LINE Granted       the hart's GrantAck is awaited
   D LINE BYTES              main memory has these bytes, and had others at reset
 
+With --vcd there is no stream but a value change dump (IEEE 1364), with neither --strict nor --state: GTKWave
+shows it. Time N is behind the event on line N of the script, 1 is reset. Where an event is refused there is
+none. Signals of each hart
+  pc, instruction (retired last), status (0 runs, 1 stopped, 2 exited), code
+  stores (that wait), oldest_word, oldest_bytes, oldest_mask, reserved, reserved_word
+and in modules A to E of each channel between its cache and the manager
+  length, front (0 none, 1 AcquireBlock, 2 ProbeBlock, 3 ProbeAck, 4 ProbeAckData, 5 Release, 6 ReleaseData,
+  7 Grant, 8 GrantData, 9 ReleaseAck, 10 GrantAck), front_line
+and in a module of each line that a message was about
+  permission (of each hart's cache: 0 Nothing, 1 Branch, 2 Trunk), dirty, acquiring, releasing
+  record (what the manager has noted of the hart), awaited (its ProbeAck)
+  transaction (0 none, 1 ProbeAcks are awaited, 2 the GrantAck is), requester
+
 Example: rvtl explain --raw examples/load.bin examples/load.script";
 
 pub(crate) const CHART_HELP: &str =

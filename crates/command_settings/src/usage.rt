@@ -173,6 +173,7 @@ fn explain_of<'a>(matches: &ArgMatches<'a>) -> Option<Explain<'a>>
         replay,
         strict: matches.get_flag("strict"),
         state: matches.get_flag("state"),
+        vcd: matches.get_flag("vcd"),
     })
 }
 

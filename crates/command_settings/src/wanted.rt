@@ -71,6 +71,8 @@ pub struct Explain<'a> {
     pub strict: bool,
     /// Tell behind the stream what the machine holds at its end.
     pub state: bool,
+    /// Tell what each event changed as waves, and neither of both.
+    pub vcd: bool,
 }
 
 /// Replay, and draw what happened as a picture.

@@ -3,3 +3,4 @@ pub mod Streams
 pub mod ExplainTold
 pub mod Drawn
 pub mod ChartTold
+pub mod Waved

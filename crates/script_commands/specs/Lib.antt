@@ -4,3 +4,4 @@ pub mod Explaining
 pub mod Named
 pub mod Addresses
 pub mod Charting
+pub mod Waving

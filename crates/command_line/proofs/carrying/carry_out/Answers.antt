@@ -1,12 +1,11 @@
 use Rattle.std.proofs.Common.{refl, subst, sym}
 use Rattle.command_files.proofs.Left.{handed_up}
-use Rattle.command_line.proofs.Carried.{all_noted, all_stay, all_told_of, check_beyond, check_came, explain_told, explained, explore_beyond, explore_came, explore_written, show_beyond, fences_beyond, fences_came, fences_noted, show_came, show_written, stay_of, told_of}
+use Rattle.command_line.proofs.Carried.{all_noted, all_stay, all_told_of, check_beyond, check_came, explore_beyond, explore_came, explore_written, show_beyond, fences_beyond, fences_came, fences_noted, show_came, show_written, stay_of, told_of}
 use Rattle.command_line.proofs.Meant.{beyond_run, journal_alone, no_address, unwritten}
-use Rattle.command_line.proofs.Leaving.{all_left_of, as_told, chart_inside, chart_outside, check_inside, check_outside, explore_inside, explore_outside, fences_inside, fences_outside, left_of, show_inside, show_outside, stream_left}
+use Rattle.command_line.proofs.Leaving.{all_left_of, as_told, chart_inside, chart_outside, check_inside, check_outside, explore_inside, explore_outside, fences_inside, fences_outside, left_of, show_inside, show_outside}
 use Rattle.command_line.specs.Running.{IsOutOfRange, IsDone, IsNoted, IsWritten}
 use Rattle.command_line.specs.Telling.{ComesBeforeFiles}
 use Rattle.trace_commands.proofs.Paged.{page_never_misused}
-use Rattle.trace_commands.proofs.Told.{telling_never_misused}
 use Rattle.script_commands.proofs.ReplayTold.{replay_never_misused}
 use Rattle.command_line.proofs.carrying.carry_out.Goals as goal
 
@@ -28,23 +27,23 @@ returns-in_err-replay_files-in-Replay-clause-outside g c = handed_up _ c.from_re
 pub returns-in_err-replay_files-in-Replay-clause-beyond : goal.returns-in_err-replay_files-in-Replay-clause-beyond
 returns-in_err-replay_files-in-Replay-clause-beyond g c = handed_up _ c.from_residual.result _ c.from_residual.ensures.1 (λ two. absurd (replay_never_misused _ _ _ c.in_err-replay_files-in-Replay.ensures.told two))
 
-pub returns-in_ok-explain_files-in-Explain-clause-came : goal.returns-in_ok-explain_files-in-Explain-clause-came
-returns-in_ok-explain_files-in-Explain-clause-came g c = explained _ _ _ _ _ c.in-Explain.explain c.strictness_of-strictness.result c.in-Explain.is c.strictness_of-strictness.ensures c.in_ok-explain_files-in-Explain.ensures.explained
+pub returns-in_ok-explained-in-Explain-clause-came : goal.returns-in_ok-explained-in-Explain-clause-came
+returns-in_ok-explained-in-Explain-clause-came g c = subst (IsDone _ _ _ _) (sym c.in-Explain.is) c.in_ok-explained-in-Explain.ensures.came
 
-pub returns-in_ok-explain_files-in-Explain-clause-spared : goal.returns-in_ok-explain_files-in-Explain-clause-spared
-returns-in_ok-explain_files-in-Explain-clause-spared g c = unwritten _ _ _ c.in_ok-explain_files-in-Explain.ensures.spared
+pub returns-in_ok-explained-in-Explain-clause-spared : goal.returns-in_ok-explained-in-Explain-clause-spared
+returns-in_ok-explained-in-Explain-clause-spared g c = unwritten _ _ _ c.in_ok-explained-in-Explain.ensures.spared
 
-pub returns-in_err-explain_files-in-Explain-clause-spared : goal.returns-in_err-explain_files-in-Explain-clause-spared
-returns-in_err-explain_files-in-Explain-clause-spared g c = unwritten _ _ _ c.in_err-explain_files-in-Explain.ensures.spared
+pub returns-in_err-explained-in-Explain-clause-spared : goal.returns-in_err-explained-in-Explain-clause-spared
+returns-in_err-explained-in-Explain-clause-spared g c = unwritten _ _ _ c.in_err-explained-in-Explain.ensures.spared
 
-pub returns-in_err-explain_files-in-Explain-clause-leaves : goal.returns-in_err-explain_files-in-Explain-clause-leaves
-returns-in_err-explain_files-in-Explain-clause-leaves g c = handed_up _ c.from_residual-in_err-explain_files-in-Explain.result _ c.from_residual-in_err-explain_files-in-Explain.ensures.1 (left_of _ _ _ _ _ _ _ c.in-Explain.is (stream_left _ _ _ c.in-Explain.explain c.strictness_of-strictness.result _ c.strictness_of-strictness.ensures c.in_err-explain_files-in-Explain.ensures.unfinished))
+pub returns-in_err-explained-in-Explain-clause-leaves : goal.returns-in_err-explained-in-Explain-clause-leaves
+returns-in_err-explained-in-Explain-clause-leaves g c = handed_up _ c.from_residual-in_err-explained-in-Explain.result _ c.from_residual-in_err-explained-in-Explain.ensures.1 (left_of _ _ _ _ _ _ _ c.in-Explain.is c.in_err-explained-in-Explain.ensures.unfinished)
 
-pub returns-in_err-explain_files-in-Explain-clause-outside : goal.returns-in_err-explain_files-in-Explain-clause-outside
-returns-in_err-explain_files-in-Explain-clause-outside g c = handed_up _ c.from_residual-in_err-explain_files-in-Explain.result _ c.from_residual-in_err-explain_files-in-Explain.ensures.1 (λ out. absurd (subst IsOutOfRange c.in-Explain.is out))
+pub returns-in_err-explained-in-Explain-clause-outside : goal.returns-in_err-explained-in-Explain-clause-outside
+returns-in_err-explained-in-Explain-clause-outside g c = handed_up _ c.from_residual-in_err-explained-in-Explain.result _ c.from_residual-in_err-explained-in-Explain.ensures.1 (λ out. absurd (subst IsOutOfRange c.in-Explain.is out))
 
-pub returns-in_err-explain_files-in-Explain-clause-beyond : goal.returns-in_err-explain_files-in-Explain-clause-beyond
-returns-in_err-explain_files-in-Explain-clause-beyond g c = handed_up _ c.from_residual-in_err-explain_files-in-Explain.result _ c.from_residual-in_err-explain_files-in-Explain.ensures.1 (λ two. absurd (telling_never_misused _ _ _ _ _ _ c.in_err-explain_files-in-Explain.ensures.told two))
+pub returns-in_err-explained-in-Explain-clause-beyond : goal.returns-in_err-explained-in-Explain-clause-beyond
+returns-in_err-explained-in-Explain-clause-beyond g c = handed_up _ c.from_residual-in_err-explained-in-Explain.result _ c.from_residual-in_err-explained-in-Explain.ensures.1 (λ two. absurd (c.in_err-explained-in-Explain.ensures.fitting two))
 
 pub returns-in_ok-page_files-in-Page-clause-came : goal.returns-in_ok-page_files-in-Page-clause-came
 returns-in_ok-page_files-in-Page-clause-came g c = subst (IsDone _ _ _ _) (sym c.in-Page.is) c.in_ok-page_files-in-Page.ensures.paged
@@ -139,9 +138,9 @@ returns-in-Check-clause-spared g c = unwritten _ _ _ c.checked.ensures.spared
 pub returns-in_err-replay_files-in-Replay-clause-told : goal.returns-in_err-replay_files-in-Replay-clause-told
 returns-in_err-replay_files-in-Replay-clause-told g c = handed_up _ c.from_residual.result _ c.from_residual.ensures.1 (told_of _ _ _ _ _ _ c.in-Replay.is c.in_err-replay_files-in-Replay.ensures.told)
 
-pub returns-in_err-explain_files-in-Explain-clause-told : goal.returns-in_err-explain_files-in-Explain-clause-told
-returns-in_err-explain_files-in-Explain-clause-told g c = handed_up _ c.from_residual-in_err-explain_files-in-Explain.result _ c.from_residual-in_err-explain_files-in-Explain.ensures.1
-    (told_of _ _ _ _ _ _ c.in-Explain.is (explain_told _ _ _ c.in-Explain.explain c.strictness_of-strictness.result _ c.strictness_of-strictness.ensures c.in_err-explain_files-in-Explain.ensures.told))
+pub returns-in_err-explained-in-Explain-clause-told : goal.returns-in_err-explained-in-Explain-clause-told
+returns-in_err-explained-in-Explain-clause-told g c = handed_up _ c.from_residual-in_err-explained-in-Explain.result _ c.from_residual-in_err-explained-in-Explain.ensures.1
+    (told_of _ _ _ _ _ _ c.in-Explain.is c.in_err-explained-in-Explain.ensures.told)
 
 pub returns-in_err-chart_files-in-Chart-clause-told : goal.returns-in_err-chart_files-in-Chart-clause-told
 returns-in_err-chart_files-in-Chart-clause-told g c = handed_up _ c.from_residual-in_err-chart_files-in-Chart.result _ c.from_residual-in_err-chart_files-in-Chart.ensures.1 (told_of _ _ _ _ _ _ c.in-Chart.is c.in_err-chart_files-in-Chart.ensures.told)
@@ -177,8 +176,8 @@ returns-in-Show-clause-told g c = all_told_of _ _ _ _ _ c.shown.result c.in-Show
 pub returns-in_ok-replay_files-in-Replay-clause-inside : goal.returns-in_ok-replay_files-in-Replay-clause-inside
 returns-in_ok-replay_files-in-Replay-clause-inside g c = λ out. absurd (subst IsOutOfRange c.in-Replay.is out)
 
-pub returns-in_ok-explain_files-in-Explain-clause-inside : goal.returns-in_ok-explain_files-in-Explain-clause-inside
-returns-in_ok-explain_files-in-Explain-clause-inside g c = λ out. absurd (subst IsOutOfRange c.in-Explain.is out)
+pub returns-in_ok-explained-in-Explain-clause-inside : goal.returns-in_ok-explained-in-Explain-clause-inside
+returns-in_ok-explained-in-Explain-clause-inside g c = λ out. absurd (subst IsOutOfRange c.in-Explain.is out)
 
 pub returns-in_ok-chart_files-in-Chart-clause-inside : goal.returns-in_ok-chart_files-in-Chart-clause-inside
 returns-in_ok-chart_files-in-Chart-clause-inside g c = λ out. chart_inside _ _ c.in_ok-chart_files-in-Chart.ensures.charted.named (subst IsOutOfRange c.in-Chart.is out)
@@ -199,8 +198,8 @@ returns-in-Check-clause-inside g c = check_inside _ c.in-Check.check c.checked.r
 pub returns-in_err-replay_files-in-Replay-clause-untouched : goal.returns-in_err-replay_files-in-Replay-clause-untouched
 returns-in_err-replay_files-in-Replay-clause-untouched g c = handed_up _ c.from_residual.result _ c.from_residual.ensures.1 (λ early. c.in_err-replay_files-in-Replay.ensures.spared)
 
-pub returns-in_err-explain_files-in-Explain-clause-untouched : goal.returns-in_err-explain_files-in-Explain-clause-untouched
-returns-in_err-explain_files-in-Explain-clause-untouched g c = handed_up _ c.from_residual-in_err-explain_files-in-Explain.result _ c.from_residual-in_err-explain_files-in-Explain.ensures.1 (λ early. c.in_err-explain_files-in-Explain.ensures.spared)
+pub returns-in_err-explained-in-Explain-clause-untouched : goal.returns-in_err-explained-in-Explain-clause-untouched
+returns-in_err-explained-in-Explain-clause-untouched g c = handed_up _ c.from_residual-in_err-explained-in-Explain.result _ c.from_residual-in_err-explained-in-Explain.ensures.1 (λ early. c.in_err-explained-in-Explain.ensures.spared)
 
 pub returns-in_err-chart_files-in-Chart-clause-untouched : goal.returns-in_err-chart_files-in-Chart-clause-untouched
 returns-in_err-chart_files-in-Chart-clause-untouched g c = handed_up _ c.from_residual-in_err-chart_files-in-Chart.result _ c.from_residual-in_err-chart_files-in-Chart.ensures.1 (λ early. c.in_err-chart_files-in-Chart.ensures.spared)
@@ -230,8 +229,8 @@ returns-in_ok-replay_files-in-Replay-clause-noted g c = subst (IsNoted _ _ _ _ _
 pub returns-in_ok-run_files-in-Run-clause-noted : goal.returns-in_ok-run_files-in-Run-clause-noted
 returns-in_ok-run_files-in-Run-clause-noted g c = subst (IsNoted _ _ _ _ _ _ _) (sym c.in-Run.is) c.in_ok-run_files-in-Run.ensures.ends
 
-pub returns-in_ok-explain_files-in-Explain-clause-noted : goal.returns-in_ok-explain_files-in-Explain-clause-noted
-returns-in_ok-explain_files-in-Explain-clause-noted g c = subst (IsNoted _ _ _ _ _ _ _) (sym c.in-Explain.is) refl
+pub returns-in_ok-explained-in-Explain-clause-noted : goal.returns-in_ok-explained-in-Explain-clause-noted
+returns-in_ok-explained-in-Explain-clause-noted g c = subst (IsNoted _ _ _ _ _ _ _) (sym c.in-Explain.is) refl
 
 pub returns-in_ok-chart_files-in-Chart-clause-noted : goal.returns-in_ok-chart_files-in-Chart-clause-noted
 returns-in_ok-chart_files-in-Chart-clause-noted g c = subst (IsNoted _ _ _ _ _ _ _) (sym c.in-Chart.is) refl

@@ -1,0 +1,9 @@
+pub mod Errors
+pub mod Signals
+pub mod Groups
+pub mod Naming
+pub mod Values
+pub mod Watching
+pub mod Telling
+pub mod Touched
+pub mod Waves
