@@ -1,5 +1,6 @@
+pub mod Adding
+pub mod Joined
+pub mod Keeping
 pub mod Paging
 pub mod Stepping
-pub mod Keeping
-pub mod Adding
 pub mod Unfinished

@@ -27,4 +27,4 @@ returns g c =
     spells_then _ _ _ _ _ _ _ _ _ c.in_ok-put_head.ensures
     (spells_then _ _ _ _ _ _ _ _ _ c.in_ok-put_all_declared.ensures
     (spells_then _ _ _ _ _ _ _ _ _ c.in_ok-put_text.ensures
-    (spells_then _ _ _ _ _ _ _ _ _ c.in_ok-put_all_dumped.ensures c.put_text.ensures)))
+    (spells_then _ _ _ _ _ _ _ _ _ c.in_ok-put_all_dumped.ensures c.put_text-2.ensures)))

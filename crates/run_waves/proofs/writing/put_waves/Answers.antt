@@ -1,3 +1,5 @@
+use Rattle.std.proofs.Common.{Ok}
+use Rattle.run_waves.specs.declared.errors.TellError.{TellError}
 use Rattle.text_fields.proofs.Pages.{page_stops}
 use Rattle.run_waves.proofs.Paging.{all_stops, all_written, out_fails, paged_then, spells_fails, spells_then}
 use Rattle.run_waves.proofs.writing.put_waves.Goals as goal
@@ -18,4 +20,4 @@ returns-in_err-hand_on g c =
 
 pub returns : goal.returns
 returns g c =
-    all_written _ _ _ c.new-page.result c.tell.new.page _ c.hand_on.result c.new-page.ensures (paged_then _ _ _ _ _ _ _ _ c.in_ok-put_opening.ensures c.in_ok-tell.ensures) c.in_ok-hand_on.ensures.sent
+    all_written {T = Unit {0}} {E = TellError} _ _ _ c.new-page.result c.tell.new.page _ (Ok tt) c.new-page.ensures (paged_then _ _ _ _ _ _ _ _ c.in_ok-put_opening.ensures c.in_ok-tell.ensures) c.in_ok-hand_on.ensures.sent
