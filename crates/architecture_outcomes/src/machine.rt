@@ -48,7 +48,15 @@ pub(crate) fn search_machine<W: Watch>(
         extent,
         states,
         ..
-    } = explore(alloc, image, config, addresses, exploring, watch, &Throughout)?;
+    } = explore(
+        alloc,
+        image,
+        config,
+        addresses,
+        exploring,
+        watch,
+        &Throughout,
+    )?;
     Ok(Machine {
         outcomes: of_machine(alloc, outcomes)?,
         extent,

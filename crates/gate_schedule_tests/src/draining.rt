@@ -45,7 +45,14 @@ fn found_by(
     machine: &FlatMachine<'_>,
     ends: &[Drained],
 ) -> Result<Found, AllocError> {
-    let findings = search(machine, Tables::new(alloc), alloc, 1000, &Unwatched, &Throughout)?;
+    let findings = search(
+        machine,
+        Tables::new(alloc),
+        alloc,
+        1000,
+        &Unwatched,
+        &Throughout,
+    )?;
     Ok(Found {
         extent: findings.extent,
         has_outcomes: are_ends(findings.outcomes.outcomes.as_slice(), ends),

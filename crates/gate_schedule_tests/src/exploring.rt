@@ -47,7 +47,14 @@ fn found_by(
     machine: &FlatMachine<'_>,
     outcomes: &[&[End]],
 ) -> Result<Found, AllocError> {
-    let findings = search(machine, Tables::new(alloc), alloc, 1000, &Unwatched, &Throughout)?;
+    let findings = search(
+        machine,
+        Tables::new(alloc),
+        alloc,
+        1000,
+        &Unwatched,
+        &Throughout,
+    )?;
     Ok(Found {
         extent: findings.extent,
         has_outcomes: are_outcomes(findings.outcomes.outcomes.as_slice(), outcomes),

@@ -59,7 +59,15 @@ fn search_machine(
         outcomes,
         extent,
         ..
-    } = explore(alloc, image, *config, addresses, exploring, &Unwatched, &Throughout)?;
+    } = explore(
+        alloc,
+        image,
+        *config,
+        addresses,
+        exploring,
+        &Unwatched,
+        &Throughout,
+    )?;
     let has_machine = extent.is_complete();
     Ok(Findings {
         outcomes: of_machine(alloc, outcomes)?,

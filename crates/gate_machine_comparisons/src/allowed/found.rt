@@ -51,7 +51,15 @@ pub fn allowed(alloc: Global, image: &Image, config: Config) -> Result<Vec<Witne
         limit: STATES,
         shortened: false,
     };
-    let machine = explore(alloc, image, config, &[], exploring, &Unwatched, &Throughout)?;
+    let machine = explore(
+        alloc,
+        image,
+        config,
+        &[],
+        exploring,
+        &Unwatched,
+        &Throughout,
+    )?;
     ensure!(
         machine.extent.is_complete(),
         "{model:?}: the machine's limit is met"
