@@ -104,6 +104,7 @@ pub record IsExploreMeant (rows : List Row) (explore : Explore) : Type 0 where
   pub whole : IsFlag (codes "whole") rows explore.whole
   pub allow : IsOptional (codes "allow") rows explore.allow
   pub fail_on : IsOptional (codes "fail-on") rows explore.fail_on
+  pub first : IsFlag (codes "first") rows explore.first
   pub sample : IsNumberIn (codes "sample") 0 most_limit rows explore.sample
   pub seed : IsNumberIn (codes "seed") 0 most_size rows explore.seed
   pub architecture : IsFlag (codes "architecture") rows explore.architecture
@@ -191,6 +192,10 @@ shortens explore = is_some explore.scripts && not explore.whole
 abbrev pub IsTwofold : Explore → Type 0
 IsTwofold explore = (explore.architecture ≡ true) × (0 < explore.sample)
 
+-- random runs of the machine are asked for, and a search to end at the first of what it finds: one of them has to be left out
+abbrev pub IsUnsearched : Explore → Type 0
+IsUnsearched explore = (explore.first ≡ true) × (0 < explore.sample)
+
 -- the search is to fail on states from which no schedule ends, which random runs and a search of the memory model don't look for
 abbrev pub IsBlind : Explore → Type 0
 IsBlind explore = (lists (codes "stuck") explore.fail_on ≡ true) × ((explore.architecture ≡ true) ⊎ (0 < explore.sample))
@@ -200,7 +205,7 @@ abbrev pub IsUnknown : Explore → Type 0
 IsUnknown explore = IsSomeAnd explore.fail_on (λ list. are_conditions list.now ≡ false)
 
 abbrev pub HasConflict : Explore → Type 0
-HasConflict explore = IsTwofold explore ⊎ (IsUnknown explore ⊎ IsBlind explore)
+HasConflict explore = IsTwofold explore ⊎ (IsUnsearched explore ⊎ (IsUnknown explore ⊎ IsBlind explore))
 
 -- whose rules messages are judged by: this machine's, or TileLink's
 abbrev pub is_profile : Text → Bool

@@ -126,7 +126,7 @@ run_arguments =
     ∷ file (codes "IMAGE")
     ∷ []
 
--- `[--states LIMIT] [--scripts FOLDER] [--allow FILE] [--fail-on LIST]`
+-- `[--states LIMIT] [--scripts FOLDER] [--whole] [--allow FILE] [--fail-on LIST] [--first]`
 abbrev pub search_arguments : List Argument
 search_arguments =
     number (codes "states") (codes "4000000") least_limit most_limit
@@ -134,6 +134,7 @@ search_arguments =
     ∷ flag (codes "whole")
     ∷ optional (codes "allow")
     ∷ optional (codes "fail-on")
+    ∷ flag (codes "first")
     ∷ []
 
 -- `[--sample RUNS] [--seed S]`

@@ -215,7 +215,8 @@ fn with_search<'a>(
     let command = add_arg(command, scripts(alloc));
     let command = add_arg(command, whole(alloc));
     let command = add_arg(command, allow(alloc));
-    add_arg(command, fail_on(alloc))
+    let command = add_arg(command, fail_on(alloc));
+    add_arg(command, first(alloc))
 }
 
 /// Random runs in place of a search.
@@ -409,6 +410,17 @@ fn fail_on<'a>(alloc: Global) -> Arg<'a>
     ensures local { result.global ≡ false }
 {
     optional(alloc, "fail-on", "LIST", FAIL_ON_HELP)
+}
+
+fn first<'a>(alloc: Global) -> Arg<'a>
+    ensures rule { rule_of result ≡ flag_rule (codes "first") }
+    ensures local { result.global ≡ false }
+{
+    flag(
+        alloc,
+        "first",
+        "end the search at the first failure, and at the first outcome that isn't in the file of --allow",
+    )
 }
 
 fn show<'a>(alloc: Global) -> Arg<'a>

@@ -88,8 +88,8 @@ and then of memory's lines
   G HART LINE Granted       the hart's GrantAck is awaited
   D LINE BYTES              main memory has these bytes, and had others at reset
 
-With --vcd there is no stream but a value change dump (IEEE 1364), with neither --strict nor --state: GTKWave
-shows it. Time N is behind the event on line N of the script, 1 is reset. Where an event is refused there is
+With --vcd there is no stream but a value change dump (IEEE 1364), which GTKWave shows; --strict and --state say
+nothing then. Time N is behind the event on line N of the script, 1 is reset. Where an event is refused there is
 none. Signals of each hart
   pc, instruction (retired last), status (0 runs, 1 stopped, 2 exited), code
   stores (that wait), oldest_word, oldest_bytes, oldest_mask, reserved, reserved_word
@@ -150,14 +150,17 @@ no store waits:
 With --scripts, events that an outcome doesn't need are left out of its script. At most 1,000,000 events
 are played to find them, and 40,000,000 for all outcomes and failures (of random runs, 1,000,000 for each).
 With --whole they stay: all that happened on the way there, as a race in a random run that its end doesn't need.
+With --first the search ends at the first hart that stops (with --architecture in an outcome), and at the first
+outcome that isn't in the file of --allow; the last line is then
+  incomplete: ended at the first, M states met
 The machine carries loads out as they retire, so that what a missing fence between two loads allows is
 not among the outcomes. With --architecture it is: behind each outcome stands whether this machine shows
 it, or the memory model alone allows it; its words are those behind all operations. It doesn't look for states
 from which no schedule ends. The last line is
   complete: N outcomes, M states      no order that the memory model allows brings the program to another end
 or incomplete: and the limit that was met. With --sample, random runs are made and counted instead, each of
-at most 1,000,000 tried events, and the last line is sampled: RUNS runs, not complete; --architecture or
---show don't go with it.
+at most 1,000,000 tried events, and the last line is sampled: RUNS runs, not complete; --architecture,
+--show or --first don't go with it.
 --seed says nothing without --sample, --whole nothing without --scripts, --window nothing without --architecture,
 --states nothing with --sample.
 

@@ -231,6 +231,7 @@ fn explore_of<'a>(matches: &ArgMatches<'a>) -> Option<Explore<'a>>
         whole: matches.get_flag("whole"),
         allow: matches.get_str("allow"),
         fail_on: matches.get_str("fail-on"),
+        first: matches.get_flag("first"),
         sample: number_of(matches, "sample")?,
         seed: number_of(matches, "seed")?,
         architecture: matches.get_flag("architecture"),

@@ -1,7 +1,7 @@
 //! What the words of the command line ask for.
 
 ghost use Rattle.std.specs.Prelude.{◌↔◌, ◌≡◌, IsSome, IsTrue};
-ghost use Rattle.command_settings.specs.Settings.{AreConflicting, HasConflict, HasNoRules, IsBlind, IsTwofold, IsUnknown, are_conditions, asks_tilelink, has_word, is_condition, is_profile, lists, shortens};
+ghost use Rattle.command_settings.specs.Settings.{AreConflicting, HasConflict, HasNoRules, IsBlind, IsTwofold, IsUnknown, IsUnsearched, are_conditions, asks_tilelink, has_word, is_condition, is_profile, lists, shortens};
 
 use clap::error::ErrorKind;
 use machine_types::MemoryModel;
@@ -15,6 +15,10 @@ const TWOFOLD: &str =
 /// What to do where a search is to fail on what it doesn't look for.
 const BLIND: &str =
     "neither --sample nor --architecture looks for states from which no schedule ends: leave out --fail-on stuck";
+
+/// What to do where random runs are to be made, and a search to end at its first.
+const UNSEARCHED: &str =
+    "--sample makes random runs of the machine, and goes with --seed; --first ends a search, and goes with --allow, --show and --architecture: leave out one of them";
 
 /// What to do where a search is to fail on what there isn't.
 const UNKNOWN: &str =
@@ -71,7 +75,7 @@ pub struct Explain<'a> {
     pub strict: bool,
     /// Tell behind the stream what the machine holds at its end.
     pub state: bool,
-    /// Tell what each event changed as waves, and neither of both.
+    /// Tell what each event changed as waves: the other two say nothing then.
     pub vcd: bool,
 }
 
@@ -99,6 +103,8 @@ pub struct Explore<'a> {
     pub allow: Option<&'a str>,
     /// What the search may not come to: `failure`, `stuck` or `incomplete`, with a comma between each two.
     pub fail_on: Option<&'a str>,
+    /// The search ends at the first failure, and at the first outcome that the file doesn't allow.
+    pub first: bool,
     /// How many random runs to make in place of a search: 0 to 1000000000, and none where it is 0.
     pub sample: u32,
     /// What the random runs begin from.
@@ -142,6 +148,13 @@ impl Explore<'_> {
         self.fails_on("stuck") && (self.architecture || 0 < self.sample)
     }
 
+    /// Whether random runs are asked for, and the first of what a search finds.
+    fn is_unsearched(&self) -> bool
+        ensures { IsTrue result ↔ IsUnsearched self.now }
+    {
+        self.first && 0 < self.sample
+    }
+
     /// Whether the search is to fail on what there isn't.
     fn is_unknown(&self) -> bool
         ensures { IsTrue result ↔ IsUnknown self.now }
@@ -158,6 +171,8 @@ impl Explore<'_> {
     {
         if self.is_twofold() {
             Some(TWOFOLD)
+        } else if self.is_unsearched() {
+            Some(UNSEARCHED)
         } else if self.is_unknown() {
             Some(UNKNOWN)
         } else if self.is_blind() {
