@@ -1,8 +1,6 @@
-use Rattle.std.proofs.Common.{◌≡◌, ◌∙◌, ◌++◌, ◌∷◌, [], List, ap, subst}
-use Rattle.elf_loader.specs.Image.{word_at}
+use Rattle.std.proofs.Common.{◌≡◌, ◌++◌, subst}
 use Rattle.image_orderings.proofs.Walked.{added_if, none_if}
 use Rattle.image_orderings.specs.Adding.{may_be_more, patch_at, place_of}
-use Rattle.image_orderings.specs.declared.replacing.Patch.{Patch}
 use Rattle.image_orderings.proofs.adding.add_place.Goals as goal
 
 pub returns-then-not-may_be_more : goal.returns-then-not-may_be_more
