@@ -13,11 +13,11 @@ ghost use Rattle.text_fields.specs.Writing.{Begins};
 
 use crate::exploring::Telling;
 use crate::findings::print;
-use crate::judging::{Judgement, judge};
+use crate::judging::judge;
 use crate::keeping::keep;
 use crate::show::asked::AskedWords;
 use crate::show::words::Shown;
-use command_files::{Fault, Files, Unshown};
+use command_files::{Fault, Files, Judgement, Unshown};
 use command_settings::{Explore, Show};
 use elf_loader::Image;
 use explorer::{Exploration, Exploring, explore};
