@@ -1,5 +1,5 @@
 -- A machine's harts, looked at one after the other.
-use Rattle.std.proofs.Common.{◌≡◌, ◌==◌, ◌↔◌, ℕ, zero, suc, ◌<◌, ◌≤◌, List, [], ◌∷◌, Bool, true, false, refl, sym, ap, ◌∙◌, not, arith, length, map, take, slice_index_or, true≢false, IsTrue}
+use Rattle.std.proofs.Common.{◌≡◌, ◌==◌, ◌↔◌, ℕ, zero, suc, ◌<◌, ◌≤◌, List, [], ◌∷◌, Bool, true, false, refl, sym, ap, ◌∙◌, not, arith, length, take, slice_index_or, true≢false, IsTrue}
 use Rattle.std.proofs.lemmas.Bool.{and_from, and_parts, eqb-true, false≢true, not-true}
 use Rattle.std.proofs.lemmas.List.{take_all}
 use Rattle.flat_exploration.specs.Outcomes.{HasDrained, HasEnded, none_waits_in}

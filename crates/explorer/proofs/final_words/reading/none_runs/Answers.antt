@@ -1,5 +1,4 @@
 use Rattle.std.proofs.Common.{◌≡◌, ◌+◌, ◌<◌, suc, take, true, sym, ap, subst, ◌∙◌, arith, length}
-use Rattle.std.proofs.lemmas.List.{take_all}
 use Rattle.flat_exploration.specs.Laws.{none_runs}
 use Rattle.hart.specs.declared.state.Hart.{Hart}
 use Rattle.hart.specs.Run.{is_running}
