@@ -1,2 +1,4 @@
 pub mod Stacks
 pub mod Counts
+pub mod Sorting
+pub mod Parting

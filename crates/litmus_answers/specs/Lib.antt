@@ -4,3 +4,5 @@ pub mod Holding
 pub mod Answers
 pub mod States
 pub mod Blocks
+pub mod Naming
+pub mod Layouts

@@ -1,11 +1,15 @@
 //! A test's program, and what a state of it tells.
-ghost use Rattle.std.specs.Prelude.{◌≡◌, ◌≤◌, length, IfOk};
+ghost use Rattle.std.specs.Prelude.{◌≡◌, ◌≤◌, length, IfErr, IfOk, IsSome};
+ghost use Rattle.litmus_answers.specs.Layouts as layouts;
+ghost use Rattle.litmus_answers.specs.Naming as naming;
+ghost use Rattle.litmus_parts.specs.Stops.{fault_of};
+ghost use Rattle.litmus_text.specs.Tests.{meaning};
 
-use crate::locations::{address_at, low_bytes, names_of, value_of};
+use crate::locations::{address_at, is_location, low_bytes, names_of, value_of};
 use crate::parts::parts_of;
-use crate::told::{is_asked, told_of};
+use crate::told::{is_told, told_of};
 use litmus_image::{Cause as ImageCause, ImageError, words_of};
-use litmus_parts::{Cause, CodeLine, Place, Stop, Told, is_same};
+use litmus_parts::{Cause, CodeLine, Initial, Stop, Told};
 use litmus_text::Test;
 use std::alloc::{AllocError, Global};
 
@@ -26,26 +30,34 @@ pub struct Layout {
 }
 
 /// What a location holds at the start.
-fn beginning_of(test: &Test, names: &[Vec<u8>], name: &[u8]) -> u32
+fn beginning_of(values: &[Initial], names: &[Vec<u8>], name: &[u8]) -> u32
     requires { length names.now ≤ 64 }
+    ensures { result ≡ layouts.beginning_of names.now values.now name.now }
 {
-    for value in &test.values {
-        if let Place::Location(known) = &value.place {
-            if is_same(name, known.as_slice()) {
-                return low_bytes(value.width, value_of(names, &value.value));
-            }
+    let mut rest = values;
+    while let [first, tail @ ..] = rest {
+        if is_location(&first.place, name) {
+            return low_bytes(first.width, value_of(names, &first.value));
         }
+        rest = tail;
     }
     0
 }
 
 /// What the locations hold at the start.
-fn beginnings_of(alloc: Global, test: &Test, names: &[Vec<u8>]) -> Result<Vec<u32>, AllocError>
+fn beginnings_of(
+    alloc: Global,
+    values: &[Initial],
+    names: &[Vec<u8>],
+) -> Result<Vec<u32>, AllocError>
     requires { length names.now ≤ 64 }
+    ensures { IfOk result (λ numbers. numbers.items ≡ layouts.beginnings_of names.now values.now names.now) }
 {
     let mut numbers = Vec::new(alloc);
-    for name in names {
-        numbers.push(beginning_of(test, names, name))?;
+    let mut rest = names;
+    while let [first, tail @ ..] = rest {
+        numbers.push(beginning_of(values, names, first))?;
+        rest = tail;
     }
     Ok(numbers)
 }
@@ -53,18 +65,25 @@ fn beginnings_of(alloc: Global, test: &Test, names: &[Vec<u8>]) -> Result<Vec<u3
 /// Where the locations stand that are told.
 fn addresses_of(alloc: Global, test: &Test, names: &[Vec<u8>]) -> Result<Vec<u32>, AllocError>
     requires { length names.now ≤ 64 }
+    ensures { IfOk result (λ addresses. addresses.items ≡ layouts.addresses_of (meaning test.now).asking names.now) }
 {
     let mut addresses = Vec::new(alloc);
-    for number in 0..names.len() {
-        if is_asked(test, &names[number]) {
+    let mut number = 0;
+    let mut rest = names;
+    while let [first, tail @ ..] = rest {
+        if is_told(test, first) {
             addresses.push(address_at(number))?;
         }
+        number += 1;
+        rest = tail;
     }
     Ok(addresses)
 }
 
 /// What no test has where the program can't have it.
-fn cause_of(cause: ImageCause) -> Cause {
+fn cause_of(cause: ImageCause) -> Cause
+    ensures { IsSome (fault_of result) }
+{
     match cause {
         ImageCause::NoLabel => Cause::Label,
         ImageCause::TooFar => Cause::Near,
@@ -87,7 +106,9 @@ fn left_of(lines: &[CodeLine], hart: usize, number: usize) -> usize {
     left
 }
 
-fn stop_of(test: &Test, error: ImageError) -> Stop {
+fn stop_of(test: &Test, error: ImageError) -> Stop
+    ensures { layouts.IsFault result }
+{
     match error {
         ImageError::Fault { hart, line, cause } => Stop::At {
             cause: cause_of(cause),
@@ -98,14 +119,18 @@ fn stop_of(test: &Test, error: ImageError) -> Stop {
 }
 
 /// The program and the places, locations being of these names.
+#[tactic(auto, using(crate::proofs::Parting::is_layout))]
 fn laid_out(alloc: Global, test: &Test, names: Vec<Vec<u8>>) -> Result<Layout, Stop>
-    requires { length names.items ≤ 64 }
-    ensures { IfOk result (λ layout. length layout.names.items ≤ 64) }
+    requires few { length names.items ≤ 64 }
+    requires sorted { naming.AreSorted (naming.names_in (meaning test.now)) names.items }
+    ensures few { IfOk result (λ layout. length layout.names.items ≤ 64) }
+    ensures layout { IfOk result (layouts.IsLayout (meaning test.now)) }
+    ensures fault { IfErr result layouts.IsFault }
 {
     let Ok(parts) = parts_of(alloc, test, &names) else {
         return Err(Stop::Memory);
     };
-    let Ok(numbers) = beginnings_of(alloc, test, &names) else {
+    let Ok(numbers) = beginnings_of(alloc, &test.values, &names) else {
         return Err(Stop::Memory);
     };
     let words = match words_of(alloc, &parts, &numbers) {
@@ -128,7 +153,9 @@ fn laid_out(alloc: Global, test: &Test, names: Vec<Vec<u8>>) -> Result<Layout, S
 
 /// The program of a test and what its states tell; or why there is none.
 pub fn layout_of(alloc: Global, test: &Test) -> Result<Layout, Stop>
-    ensures { IfOk result (λ layout. length layout.names.items ≤ 64) }
+    ensures few { IfOk result (λ layout. length layout.names.items ≤ 64) }
+    ensures layout { IfOk result (layouts.IsLayout (meaning test.now)) }
+    ensures fault { IfErr result layouts.IsFault }
 {
     let Ok(names) = names_of(alloc, test) else {
         return Err(Stop::Memory);
