@@ -3,3 +3,4 @@ mod Carried
 mod Meant
 pub mod StreamLeft
 mod Leaving
+pub mod Litmus

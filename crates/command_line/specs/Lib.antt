@@ -1,3 +1,4 @@
 pub mod Running
 pub mod Telling
 pub mod Runs
+pub mod Program

@@ -1,4 +1,12 @@
 pub mod Adding
+pub mod Answering
 pub mod Ends
+pub mod Fitting
+pub mod Lines
+pub mod Logged
 pub mod Machine
-pub mod Ordered
+pub mod Naming
+pub mod Numbers
+pub mod Stopping
+pub mod Walking
+pub mod Words

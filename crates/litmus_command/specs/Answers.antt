@@ -14,10 +14,16 @@ use Rattle.litmus_text.specs.declared.test.Test.{Test}
 use Rattle.litmus_command.specs.declared.search.Findings.{Findings}
 use Rattle.litmus_command.specs.declared.states.Of.TheVariants as of
 use Rattle.litmus_command.specs.declared.program.Program.{Program}
-use Rattle.litmus_command.specs.Programs.{IsProgram}
+use Rattle.litmus_answers.specs.Layouts.{IsLayout}
+use Rattle.litmus_command.specs.Programs.{IsNoProgram, IsProgram}
+use Rattle.litmus_command.specs.declared.fault.Halt.{Halt}
+use Rattle.litmus_command.specs.declared.fault.Halt.TheVariants as halt
+use Rattle.litmus_command.specs.Wishes.{Wishes}
 use Rattle.litmus_text.specs.Tests.{meaning, test_in}
-use Rattle.architecture_outcomes.specs.Outcomes.{IsWitnessed, TellsEachEnd}
-use Rattle.litmus_command.specs.States.{AreStates}
+use Rattle.architecture_outcomes.specs.Complete.{TellsEachAllowed}
+use Rattle.architecture_outcomes.specs.Outcomes.{IsWitnessed, TellsEachEnd, ends_of}
+use Rattle.architecture_outcomes.specs.declared.outcome.Outcome.{Outcome}
+use Rattle.litmus_command.specs.States.{AreStates, IsStopIn}
 
 -- of how many states the question's proposition holds
 abbrev pub tally_of : Test → Layout → List (Vec ℕ) → Tally
@@ -57,24 +63,45 @@ settles Forall answer.No = true
 settles kind answer.Undecided = false
 settles kind answer.NoRun = false
 
--- a text answers a test by what a search found: each state that counts is told once, in order; the answer is proved where a state settles it, or where no state of the machine is missing and the machine's alone are asked for
+-- each end is told: of the machine alone, or of all runs that the model allows
+abbrev pub TellsEach : (machine : Bool) → Program → (addresses : List ℕ) → List Outcome → Type 0
+TellsEach true p addresses outcomes = TellsEachEnd p.image p.config addresses outcomes
+TellsEach false p addresses outcomes = TellsEachAllowed p.image p.config addresses (ends_of outcomes)
+
+-- a search of this program: each end that it tells is a run's; where it says so, none of the machine's is missing, and none of those that are wanted
+pub record IsSearch (machine : Bool) (p : Program) (addresses : List ℕ) (search : Findings) : Type 0 where
+  pub shown : All (IsWitnessed p.image p.config addresses) search.outcomes.items
+  pub each_end : IsTrue search.has_machine → TellsEachEnd p.image p.config addresses search.outcomes.items
+  pub whole : IsTrue search.is_whole → TellsEach machine p addresses search.outcomes.items
+
+-- a text answers a test by what a search found: each state that counts is told once, in order; the answer is proved where a state settles it, or where the search says that no state is missing
 pub record Answers (brief machine : Bool) (test : Test) (layout : Layout) (search : Findings) (text : List ℕ) (is_proved : Bool) : Type 0 where
   pub states : List (Vec ℕ)
   pub are_states : AreStates layout test.asking.filter of.All search.outcomes.items states
   pub report : Report
   pub is_report : IsReport test layout states search.is_whole report
   pub is_text : IsText brief machine test layout search report text
-  pub proved : is_proved ≡ (settles report.kind report.answer || (machine && search.is_whole))
+  pub proved : is_proved ≡ (settles report.kind report.answer || search.is_whole)
 
--- the text answers the test that bytes say, by runs of its program, where the machine's part is whole if it is said to be
-pub record AnswersTest (bytes : List ℕ) (brief machine : Bool) (text : List ℕ) (is_proved : Bool) : Type 0 where
+-- the text answers a test that is laid out so, as it is wished, by a search of exactly this program, on a machine of its harts and of the model that is wished
+pub record IsAnswer (test : Test) (layout : Layout) (wishes : Wishes) (text : List ℕ) (is_proved : Bool) : Type 0 where
+  pub program : Program
+  pub is_program : IsProgram test.harts wishes.model layout program
+  pub search : Findings
+  pub is_search : IsSearch wishes.machine program layout.addresses.items search
+  pub answers : Answers wishes.brief wishes.machine test layout search text is_proved
+
+-- why a test that is laid out so isn't answered: a hart stops at an end that a search of its program tells, or there is no such program; or memory was refused
+abbrev pub IsHalt : Test → Layout → Wishes → Halt → Type 0
+IsHalt test layout w (halt.Stops hart cause) =
+    (program : Program) × IsProgram test.harts w.model layout program × ((search : Findings) × IsSearch w.machine program layout.addresses.items search × IsStopIn search.outcomes.items (halt.Stops hart cause))
+IsHalt test layout w halt.Unfit = IsNoProgram test.harts layout halt.Unfit
+IsHalt test layout w halt.NoMemory = Unit {0}
+
+-- it answers the test that bytes say, by a search of exactly the program that this test makes
+pub record AnswersTest (bytes : List ℕ) (wishes : Wishes) (text : List ℕ) (is_proved : Bool) : Type 0 where
   pub test : Test
   pub is_test : test_in bytes ≡ Ok (meaning test)
   pub layout : Layout
-  pub program : Program
-  pub is_program : IsProgram layout program
-  pub search : Findings
-  pub shown : All (IsWitnessed program.image program.config layout.addresses.items) search.outcomes.items
-  pub each_told : IsTrue search.has_machine → TellsEachEnd program.image program.config layout.addresses.items search.outcomes.items
-  pub whole : IsTrue machine → IsTrue search.is_whole → IsTrue search.has_machine
-  pub answers : Answers brief machine test layout search text is_proved
+  pub is_layout : IsLayout (meaning test) layout
+  pub is_answer : IsAnswer test layout wishes text is_proved

@@ -1,11 +1,67 @@
 -- How files end, and the status that comes of it.
-use Rattle.std.specs.Prelude.{ℕ, ◌≡◌, Bool, true, false, List, Option, Some, None, All, nat_lt}
-use Rattle.std.specs.List.{list_any}
+use Rattle.std.specs.Prelude.{ℕ, ◌≡◌, ◌⊎◌, ◌++◌, ◌==◌, Bool, true, false, List, [], ◌∷◌, Option, Some, None, Ok, Err, IsSome, IsTrue, is_none, if◌then◌else◌}
+use Rattle.std.specs.Io.KnownBytes.{Appends}
 use Rattle.command_files.specs.Contents.{Contents, HoldsBytes}
-use Rattle.litmus_command.specs.declared.ended.Counts.{Counts}
 use Rattle.litmus_command.specs.declared.ended.Ended.{Ended}
 use Rattle.litmus_command.specs.declared.ended.Ended.TheVariants.{Answered, Differs, Skipped, Failed, Closed, NoMemory}
-use Rattle.litmus_command.specs.Answers.{AnswersTest}
+use Rattle.litmus_command.specs.declared.fault.Halt.{Halt}
+use Rattle.litmus_command.specs.declared.fault.Halt.TheVariants as halt
+use Rattle.litmus_command.specs.declared.fault.Trouble.{Trouble}
+use Rattle.litmus_command.specs.declared.fault.Trouble.TheVariants as trouble
+use Rattle.litmus_answers.specs.Layouts.{IsLayout}
+use Rattle.litmus_answers.specs.declared.layout.Layout.{Layout}
+use Rattle.litmus_command.specs.Answers.{AnswersTest, IsHalt}
+use Rattle.litmus_command.specs.Wishes.{Wishes, are_compared}
+use Rattle.litmus_parts.specs.Stops.{fault_of, line_of}
+use Rattle.litmus_parts.specs.declared.stop.Cause.{Cause}
+use Rattle.litmus_parts.specs.declared.stop.Stop.{Stop}
+use Rattle.litmus_parts.specs.declared.stop.Stop.TheVariants.{At, Memory}
+use Rattle.litmus_text.specs.Tests.{Meaning, meaning, test_in}
+use Rattle.litmus_text.specs.declared.test.Test.{Test}
+use Rattle.text_fields.specs.Writing.{Begins}
+
+-- ---- what is told of a file without an answer
+
+-- it is a test, but for another machine
+abbrev pub is_other : Trouble → Bool
+is_other (trouble.Text line cause found) = is_none (fault_of cause)
+is_other (trouble.Halts halt) = false
+
+-- no test goes on as the bytes do where so many are left; or they are a test that makes no program
+abbrev pub IsStop : List ℕ → Cause → (left : ℕ) → Type 0
+IsStop bytes cause left = (test_in bytes ≡ Err (At cause left)) ⊎ ((test : Meaning) × (test_in bytes ≡ Ok test) × IsSome (fault_of cause))
+
+-- they are a test that isn't answered for this cause
+abbrev pub HasHalt : List ℕ → Wishes → Halt → Type 0
+HasHalt bytes w why = (test : Test) × (test_in bytes ≡ Ok (meaning test)) × ((layout : Layout) × IsLayout (meaning test) layout × IsHalt test layout w why)
+
+-- the same, where it isn't want of memory
+abbrev pub IsHalted : List ℕ → Wishes → Halt → Type 0
+IsHalted bytes w (halt.Stops hart cause) = HasHalt bytes w (halt.Stops hart cause)
+IsHalted bytes w halt.Unfit = HasHalt bytes w halt.Unfit
+IsHalted bytes w halt.NoMemory = Unit {0}
+
+-- the line is the one at which they stop
+abbrev pub IsTrouble : List ℕ → Wishes → Trouble → Type 0
+IsTrouble bytes w (trouble.Text line cause found) = (left : ℕ) × (line ≡ line_of bytes left) × IsStop bytes cause left
+IsTrouble bytes w (trouble.Halts halt) = IsHalted bytes w halt
+
+-- what a reader's stop is told as
+abbrev pub TellsStop : List ℕ → Stop → Trouble → Type 0
+TellsStop text Memory told = told ≡ trouble.Halts halt.NoMemory
+TellsStop text (At cause left) (trouble.Text line why found) = (line ≡ line_of text left) × (why ≡ cause)
+TellsStop text (At cause left) (trouble.Halts why) = ⊥
+
+-- it is told, and the file is skipped or fails; or there was no memory
+abbrev pub IsRefused : Trouble → Ended → Type 0
+IsRefused why (Answered is_proved) = ⊥
+IsRefused why (Differs is_proved) = ⊥
+IsRefused why Skipped = is_other why ≡ true
+IsRefused why Failed = is_other why ≡ false
+IsRefused why Closed = ⊥
+IsRefused why NoMemory = Unit {0}
+
+-- ---- how files end
 
 abbrev pub is_failed : Ended → Bool
 is_failed Failed = true
@@ -23,6 +79,33 @@ is_differing Failed = false
 is_differing Closed = false
 is_differing NoMemory = false
 
+-- the command ends with it
+abbrev pub is_cut : Ended → Bool
+is_cut Closed = true
+is_cut NoMemory = true
+is_cut (Answered is_proved) = false
+is_cut (Differs is_proved) = false
+is_cut Skipped = false
+is_cut Failed = false
+
+-- standard output takes no more
+abbrev pub is_closed : Ended → Bool
+is_closed Closed = true
+is_closed NoMemory = false
+is_closed (Answered is_proved) = false
+is_closed (Differs is_proved) = false
+is_closed Skipped = false
+is_closed Failed = false
+
+-- memory was refused
+abbrev pub is_starved : Ended → Bool
+is_starved NoMemory = true
+is_starved Closed = false
+is_starved (Answered is_proved) = false
+is_starved (Differs is_proved) = false
+is_starved Skipped = false
+is_starved Failed = false
+
 -- a file without a test goes before a difference
 abbrev pub status_by : (failed differing : Bool) → ℕ
 status_by true differing = 1
@@ -39,8 +122,31 @@ final_status Skipped = None
 final_status Failed = None
 
 -- the test in the file of this name was answered by a text, and the answer is proved
-abbrev pub IsAnswered : Contents → (machine : Bool) → (name : List ℕ) → (is_proved : Bool) → Type 0
-IsAnswered held machine name is_proved = (bytes : List ℕ) × HoldsBytes held name bytes × ((brief : Bool) × (text : List ℕ) × AnswersTest bytes brief machine text is_proved)
+abbrev pub IsAnswered : Contents → Wishes → (name text : List ℕ) → (is_proved : Bool) → Type 0
+IsAnswered held w name text is_proved = (bytes : List ℕ) × HoldsBytes held name bytes × AnswersTest bytes w text is_proved
+
+-- the file of this name has a test, but for another machine
+abbrev pub HasOther : Contents → (name : List ℕ) → Type 0
+HasOther held name = (bytes : List ℕ) × HoldsBytes held name bytes × ((cause : Cause) × (left : ℕ) × (test_in bytes ≡ Err (At cause left)) × (fault_of cause ≡ None))
+
+-- a beginning of the answer
+abbrev pub IsBegun : Contents → Wishes → (name sent : List ℕ) → Type 0
+IsBegun held w name sent = (text : List ℕ) × (is_proved : Bool) × IsAnswered held w name text is_proved × ((rest : List ℕ) × (text ≡ sent ++ rest))
+
+-- how the file of this name ended, and what went out: its answer, but where that is as the logs have it; a beginning of the answer where standard output takes no more
+abbrev pub IsEnd : Contents → Wishes → (name : List ℕ) → Ended → (sent : List ℕ) → Type 0
+IsEnd held w name (Answered is_proved) sent = (text : List ℕ) × IsAnswered held w name text is_proved × (sent ≡ (if are_compared w then [] else text))
+IsEnd held w name (Differs is_proved) sent = IsAnswered held w name sent is_proved × IsTrue (are_compared w)
+IsEnd held w name Skipped sent = HasOther held name × (sent ≡ [])
+IsEnd held w name Failed sent = sent ≡ []
+IsEnd held w name Closed sent = IsBegun held w name sent
+IsEnd held w name NoMemory sent = sent ≡ []
+
+-- it ended so, and that went out
+pub record Ends (held : Contents) (w : Wishes) (name : List ℕ) (old new : Option (List ℕ)) (ended : Ended) : Type 0 where
+  pub sent : List ℕ
+  pub is_end : IsEnd held w name ended sent
+  pub went : Appends old new sent
 
 -- a file can't be read, or memory was refused
 abbrev pub IsUnread : Ended → Type 0
@@ -51,56 +157,15 @@ IsUnread Failed = Unit {0}
 IsUnread Closed = ⊥
 IsUnread NoMemory = Unit {0}
 
--- no test was answered
-abbrev pub IsUnanswered : Ended → Type 0
-IsUnanswered (Answered is_proved) = ⊥
-IsUnanswered (Differs is_proved) = ⊥
-IsUnanswered Skipped = Unit {0}
-IsUnanswered Failed = Unit {0}
-IsUnanswered Closed = Unit {0}
-IsUnanswered NoMemory = Unit {0}
+-- an answer went out, if it isn't as the logs have it; or a beginning of it, or nothing for want of memory
+abbrev pub IsPrinted : (compared : Bool) → (text : List ℕ) → (is_proved : Bool) → (old new : Option (List ℕ)) → Ended → Type 0
+IsPrinted compared text is_proved old new (Answered told) = (told ≡ is_proved) × Appends old new (if compared then [] else text)
+IsPrinted compared text is_proved old new (Differs told) = (told ≡ is_proved) × IsTrue compared × Appends old new text
+IsPrinted compared text is_proved old new Skipped = ⊥
+IsPrinted compared text is_proved old new Failed = ⊥
+IsPrinted compared text is_proved old new Closed = Begins old new text
+IsPrinted compared text is_proved old new NoMemory = new ≡ old
 
--- an answer went out, or can't
-abbrev pub IsPrinted : (is_proved : Bool) → Ended → Type 0
-IsPrinted is_proved (Answered told) = told ≡ is_proved
-IsPrinted is_proved (Differs told) = told ≡ is_proved
-IsPrinted is_proved Skipped = ⊥
-IsPrinted is_proved Failed = ⊥
-IsPrinted is_proved Closed = Unit {0}
-IsPrinted is_proved NoMemory = Unit {0}
-
--- how the file of this name ended: where its test is said to be answered, it is
-abbrev pub IsEnd : Contents → (machine : Bool) → (name : List ℕ) → Ended → Type 0
-IsEnd held machine name (Answered is_proved) = IsAnswered held machine name is_proved
-IsEnd held machine name (Differs is_proved) = IsAnswered held machine name is_proved
-IsEnd held machine name Skipped = Unit {0}
-IsEnd held machine name Failed = Unit {0}
-IsEnd held machine name Closed = Unit {0}
-IsEnd held machine name NoMemory = Unit {0}
-
--- the files, by name, and how each ended
-abbrev pub Ends : Type 0
-Ends = List (List ℕ × Ended)
-
-abbrev pub AreEnds : Contents → (machine : Bool) → Ends → Type 0
-AreEnds held machine = All (λ (e : List ℕ × Ended). IsEnd held machine e.0 e.1)
-
-abbrev pub has_failed : Ends → Bool
-has_failed = list_any (λ (e : List ℕ × Ended). is_failed e.1)
-
-abbrev pub has_differing : Ends → Bool
-has_differing = list_any (λ (e : List ℕ × Ended). is_differing e.1)
-
--- files ended so, and the counts tell whether one of them failed, and whether one differs
-pub record AreCounted (held : Contents) (machine : Bool) (counts : Counts) : Type 0 where
-  pub ends : Ends
-  pub are_ends : AreEnds held machine ends
-  pub failed : nat_lt 0 counts.failed ≡ has_failed ends
-  pub differing : nat_lt 0 counts.differing ≡ has_differing ends
-
--- no file failed, and none differs
-pub record AllAnswered (held : Contents) (machine : Bool) : Type 0 where
-  pub ends : Ends
-  pub are_ends : AreEnds held machine ends
-  pub none_failed : has_failed ends ≡ false
-  pub none_differs : has_differing ends ≡ false
+-- all of an answer went out, or a beginning of it
+abbrev pub IsSent : (text : List ℕ) → (old new : Option (List ℕ)) → (wanted ended : Ended) → Type 0
+IsSent text old new wanted ended = ((ended ≡ wanted) × Appends old new text) ⊎ ((ended ≡ Closed) × Begins old new text)

@@ -1,4 +1,9 @@
+pub mod Wishes
+pub mod Requests
+pub mod Listing
 pub mod States
 pub mod Programs
 pub mod Answers
 pub mod Ended
+pub mod Line
+pub mod Waiting

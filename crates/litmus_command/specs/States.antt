@@ -1,5 +1,5 @@
 -- The final states of a test, read off the ends of its program's runs.
-use Rattle.std.specs.Prelude.{ℕ, ◌↔◌, ◌+◌, Bool, true, false, List, [], ◌∷◌, ◌++◌, Option, Some, None, Contains, slice_get, map, if◌then◌else◌}
+use Rattle.std.specs.Prelude.{ℕ, ◌≡◌, ◌⊎◌, ◌↔◌, ◌+◌, Bool, true, false, List, [], ◌∷◌, ◌++◌, Option, Some, None, Contains, slice_get, map, if◌then◌else◌}
 use Rattle.std.specs.Cmp.Lexicographic.{slice_cmp}
 use Rattle.std.specs.Ordering.{nat_cmp, on}
 use Rattle.std.specs.declared.cmp.Ordering.{Ordering}
@@ -16,6 +16,8 @@ use Rattle.litmus_answers.specs.Holding.{holds, shown}
 use Rattle.litmus_parts.specs.declared.step.Step.{Step}
 use Rattle.litmus_parts.specs.declared.told.Told.{Told}
 use Rattle.litmus_parts.specs.declared.told.Told.TheVariants.{Register, Location}
+use Rattle.litmus_command.specs.declared.fault.Halt.{Halt}
+use Rattle.litmus_command.specs.declared.fault.Halt.TheVariants as halt
 use Rattle.litmus_command.specs.declared.states.Of.{Of}
 use Rattle.litmus_command.specs.declared.states.Of.TheVariants as of
 
@@ -92,3 +94,17 @@ found layout filter which states (o ∷ outcomes) = found layout filter which (i
 pub record AreStates (layout : Layout) (filter : Option (Vec Step)) (which : Of) (outcomes : List Outcome) (rows : List (Vec ℕ)) : Type 0 where
   pub sorted : IsStrictlySortedBy state_cmp rows
   pub each : (state : List ℕ) → Contains (found layout filter which [] outcomes) state ↔ Contains (plain rows) state
+
+-- ---- why they aren't told
+
+-- a hart of the outcome stops before its end, the first one that does for this cause; or memory was refused
+abbrev pub IsStopOf : Outcome → Halt → Type 0
+IsStopOf o (halt.Stops hart cause) = stopped_from 0 o.harts.items ≡ Some (hart, cause)
+IsStopOf o halt.Unfit = ⊥
+IsStopOf o halt.NoMemory = Unit {0}
+
+-- the same of one of these outcomes
+abbrev pub IsStopIn : List Outcome → Halt → Type 0
+IsStopIn outcomes (halt.Stops hart cause) = (o : Outcome) × Contains outcomes o × IsStopOf o (halt.Stops hart cause)
+IsStopIn outcomes halt.Unfit = ⊥
+IsStopIn outcomes halt.NoMemory = Unit {0}

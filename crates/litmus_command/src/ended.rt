@@ -98,7 +98,7 @@ impl Display for Counts {
         } = self;
         write!(f, "{answered} answered, {proved} of them proved")?;
         if proved < answered {
-            f.write_str(" (the others rest on a search that isn't proved to be complete)")?;
+            f.write_str(" (a bound was met in searching for the others)")?;
         }
         if *skipped > 0 {
             write!(f, "; {skipped} skipped")?;

@@ -1,5 +1,9 @@
 //! What is told of a file that has no test which can be answered.
 
+ghost use Rattle.std.specs.Prelude.{◌≡◌};
+ghost use Rattle.litmus_command.specs.Ended as ends;
+ghost use Rattle.litmus_command.specs.declared.fault.Halt.TheVariants.{NoMemory};
+
 use command_files::Escaped;
 use litmus_parts::{Cause, Fault, Stop, line_of};
 use std::alloc::AllocError;
@@ -15,18 +19,26 @@ pub(crate) enum Trouble {
         cause: Cause,
         found: Excerpt,
     },
+    /// It is a test, but isn't answered.
+    Halts(Halt),
+}
+
+/// Why a test isn't answered.
+#[derive(Clone, Copy)]
+pub(crate) enum Halt {
     /// A hart stops before its code's end.
-    Stops {
-        hart: usize,
-        cause: u8,
-    },
+    Stops { hart: usize, cause: u8 },
+    /// Its program doesn't fit into the machine.
+    Unfit,
     /// Memory was refused.
     NoMemory,
 }
 
-impl From<AllocError> for Trouble {
+impl From<AllocError> for Halt {
+    ghost from_gives = { λ _ halt. halt ≡ NoMemory };
+
     fn from(_error: AllocError) -> Self {
-        Trouble::NoMemory
+        Halt::NoMemory
     }
 }
 
@@ -45,9 +57,11 @@ fn found_at(text: &[u8], left: usize) -> Excerpt {
 
 impl Trouble {
     /// What stopped a reader of this text.
-    pub fn reading(text: &[u8], stop: Stop) -> Trouble {
+    pub fn reading(text: &[u8], stop: Stop) -> Trouble
+        ensures { ends.TellsStop text.now stop result }
+    {
         match stop {
-            Stop::Memory => Trouble::NoMemory,
+            Stop::Memory => Trouble::Halts(Halt::NoMemory),
             Stop::At { cause, left } => Trouble::Text {
                 line: line_of(text, left),
                 cause,
@@ -156,21 +170,26 @@ impl Display for Told<'_> {
                     None => write!(f, "rvtl: {file}: skipped: line {line}: {found}: {what}"),
                 }
             }
-            Trouble::Stops { hart, cause } => write!(
+            Trouble::Halts(Halt::Stops { hart, cause }) => write!(
                 f,
                 "rvtl: {file}: P{hart} stops (stop {cause}), and a test's harts have to come to their end"
             ),
-            Trouble::NoMemory => write!(f, "rvtl: out of memory"),
+            Trouble::Halts(Halt::Unfit) => {
+                write!(f, "rvtl: {file}: its program doesn't fit into the machine")
+            }
+            Trouble::Halts(Halt::NoMemory) => write!(f, "rvtl: out of memory"),
         }
     }
 }
 
 impl Trouble {
     /// Whether it is a test, but for another machine.
-    pub fn is_skipped(&self) -> bool {
+    pub fn is_skipped(&self) -> bool
+        ensures { result ≡ ends.is_other self.now }
+    {
         match self {
             Trouble::Text { cause, .. } => cause.fault().is_none(),
-            Trouble::Stops { .. } | Trouble::NoMemory => false,
+            Trouble::Halts(_) => false,
         }
     }
 }

@@ -1,10 +1,14 @@
 //! The whole command.
-ghost use Rattle.std.specs.Prelude.{◌≡◌, ◌<◌, ◌≤◌, IfErr, IfOk, IfSome};
+ghost use Rattle.std.specs.Prelude.{◌≡◌, ◌<◌, ◌≤◌, ◌++◌, ◌∷◌, MatchOption, IfErr, IfOk, false, is_some, map, true};
 ghost use Rattle.command_files.specs.Contents.{HoldsBytes};
 ghost use Rattle.litmus_command.specs.Ended as ends;
+ghost use Rattle.litmus_command.specs.Line as line;
+ghost use Rattle.litmus_command.specs.Requests.{texts};
+ghost use Rattle.litmus_command.specs.Waiting as waiting;
+ghost use Rattle.litmus_command.specs.Wishes as wishes;
 
 use crate::ended::{Counts, Ended, final_status};
-use crate::fault::{Told, Trouble};
+use crate::fault::{Halt, Told, Trouble};
 use crate::files::names_in;
 use crate::logs::Logs;
 use crate::test::{Reply, answer_to};
@@ -46,9 +50,9 @@ fn read<F: Files, E: Write>(
 
 /// Tells why a file has no answer.
 fn refuse<E: Write>(name: &str, trouble: &Trouble, err: &mut E) -> Ended
-    ensures { ends.IsUnanswered result }
+    ensures { ends.IsRefused trouble.now result }
 {
-    if let Trouble::NoMemory = trouble {
+    if let Trouble::Halts(Halt::NoMemory) = trouble {
         return Ended::NoMemory;
     }
     let told = Told {
@@ -63,27 +67,34 @@ fn refuse<E: Write>(name: &str, trouble: &Trouble, err: &mut E) -> Ended
     }
 }
 
-/// Prints the answer to a test, unless it agrees with the logs that are named.
-fn print<O: Write>(alloc: Global, reply: &Reply, logs: &Logs, out: &mut O) -> Ended
-    ensures { ends.IsPrinted reply.now.is_proved result }
+/// Prints the answer to a test.
+fn send<O: Write>(reply: &Reply, ended: Ended, out: &mut O) -> Ended
+    ensures { ends.IsSent reply.now.text.items (O.contents out.old) (O.contents out.new) ended result }
 {
-    let is_proved = reply.is_proved;
-    let mut ended = Ended::Answered { is_proved };
-    if logs.are_named() {
-        match logs.judge(alloc, &reply.text) {
-            Ok(true) => return ended,
-            Ok(false) => ended = Ended::Differs { is_proved },
-            Err(_) => return Ended::NoMemory,
-        }
-    }
     match put(out, &reply.text) {
         Ok(()) => ended,
         Err(_) => Ended::Closed,
     }
 }
 
+/// Prints the answer to a test, unless it agrees with the logs that are named.
+#[tactic(auto, using(crate::proofs::Ends::sent_alone, crate::proofs::Ends::sent_differing, crate::proofs::Ends::unsent))]
+fn print<O: Write>(alloc: Global, reply: &Reply, logs: &Logs, out: &mut O) -> Ended
+    ensures { ends.IsPrinted (waiting.are_named logs.now) reply.now.text.items reply.now.is_proved (O.contents out.old) (O.contents out.new) result }
+{
+    let is_proved = reply.is_proved;
+    if !logs.are_named() {
+        return send(reply, Ended::Answered { is_proved }, out);
+    }
+    match logs.judge(alloc, &reply.text) {
+        Ok(true) => Ended::Answered { is_proved },
+        Ok(false) => send(reply, Ended::Differs { is_proved }, out),
+        Err(_) => Ended::NoMemory,
+    }
+}
+
 /// Answers the test of a file.
-#[tactic(auto, using(crate::proofs::Ends::unread, crate::proofs::Ends::unanswered, crate::proofs::Ends::answered))]
+#[tactic(auto, using(crate::proofs::Ends::unread, crate::proofs::Ends::refused, crate::proofs::Ends::answered))]
 fn answer_file<F: Files, O: Write, E: Write>(
     alloc: Global,
     files: &mut F,
@@ -93,8 +104,9 @@ fn answer_file<F: Files, O: Write, E: Write>(
     out: &mut O,
     err: &mut E,
 ) -> Ended
-    requires { 0 < wanted.states }
-    ensures end { ends.IsEnd (F.held files.old) wanted.entry.machine name.now result }
+    requires states { 0 < wanted.states }
+    requires logs { waiting.are_named logs.now ≡ wishes.are_compared (wishes.wishes wanted) }
+    ensures end { ends.Ends (F.held files.old) (wishes.wishes wanted.entry) name.now (O.contents out.old) (O.contents out.new) result }
     ensures stays { F.held files.new ≡ F.held files.old }
 {
     let bytes = match read(alloc, files, name, err) {
@@ -114,6 +126,9 @@ fn log_in<F: Files, E: Write>(
     name: Option<&str>,
     err: &mut E,
 ) -> Result<Option<Vec<Entry>>, Ended>
+    ensures log { IfOk result (λ log. is_some log ≡ is_some name.entry) }
+    ensures named { IfErr result (λ _. is_some name.entry ≡ true) }
+    ensures stopped { IfErr result ends.IsUnread }
     ensures stays { F.held files.new ≡ F.held files.old }
 {
     let Some(name) = name else {
@@ -127,12 +142,16 @@ fn log_in<F: Files, E: Write>(
 }
 
 /// The logs that are named.
+#[tactic(auto, using(crate::proofs::Logged::as_named, crate::proofs::Logged::expects, crate::proofs::Logged::has_seen))]
 fn logs_of<F: Files, E: Write>(
     alloc: Global,
     files: &mut F,
     wanted: Wanted<'_>,
     err: &mut E,
 ) -> Result<Logs, Ended>
+    ensures logs { IfOk result (λ logs. waiting.are_named logs ≡ wishes.are_compared (wishes.wishes wanted.entry)) }
+    ensures named { IfErr result (λ _. wishes.are_compared (wishes.wishes wanted.entry) ≡ true) }
+    ensures stopped { IfErr result ends.IsUnread }
     ensures stays { F.held files.new ≡ F.held files.old }
 {
     let expect = log_in(alloc, files, wanted.expect, err)?;
@@ -141,6 +160,7 @@ fn logs_of<F: Files, E: Write>(
 }
 
 /// The names of a list go before those that wait.
+#[tactic(auto, using(crate::proofs::Walking::waiting_append))]
 fn add_list<F: Files, E: Write>(
     alloc: Global,
     files: &mut F,
@@ -149,6 +169,8 @@ fn add_list<F: Files, E: Write>(
     err: &mut E,
 ) -> Result<(), Ended>
     ensures stopped { IfErr result ends.IsUnread }
+    ensures same { IfErr result (λ _. waiting.waiting pending.new.items ≡ waiting.waiting pending.old.items) }
+    ensures added { IfOk result (λ _. waiting.HasNames (F.held files.old) list.now (waiting.waiting pending.old.items) (waiting.waiting pending.new.items)) }
     ensures stays { F.held files.new ≡ F.held files.old }
 {
     let bytes = read(alloc, files, list, err)?;
@@ -162,17 +184,29 @@ fn add_list<F: Files, E: Write>(
 }
 
 /// The names, the last one first.
-fn pending_of(alloc: Global, names: &[&str]) -> Result<Vec<String>, AllocError> {
+fn pending_of(alloc: Global, names: &[&str]) -> Result<Vec<String>, AllocError>
+    ensures { IfOk result (λ pending. waiting.waiting pending.items ≡ texts names.now) }
+{
     let mut pending = Vec::new(alloc);
-    for name in names {
-        pending.push(String::from_str(alloc, name)?)?;
+    let mut rest = names;
+    while let [first, tail @ ..] = rest {
+        pending.push(String::from_str(alloc, *first)?)?;
+        rest = tail;
     }
     pending.reverse();
     Ok(pending)
 }
 
+/// The list that a name is of, if it is of one.
+#[tactic(auto, using(crate::proofs::Naming::list_named))]
+fn list_named(name: &str) -> Option<&str>
+    ensures { MatchOption result (line.is_list name.now ≡ false) (λ list. name.now ≡ 64 ∷ list.now) }
+{
+    name.strip_prefix('@')
+}
+
 /// Goes on with a name: reads a list's names, or answers the test of a file.
-#[tactic(auto, using(crate::proofs::Ends::unread))]
+#[tactic(auto, using(crate::proofs::Walking::took_file, crate::proofs::Walking::took_none, crate::proofs::Walking::took_unread, crate::proofs::Walking::took_list))]
 fn take<F: Files, O: Write, E: Write>(
     alloc: Global,
     files: &mut F,
@@ -185,12 +219,14 @@ fn take<F: Files, O: Write, E: Write>(
     err: &mut E,
 ) -> Option<Ended>
     requires states { 0 < wanted.states }
+    requires logs { waiting.are_named logs.now ≡ wishes.are_compared (wishes.wishes wanted) }
     requires lists { lists.old ≤ 1000 }
     ensures lists { lists.new ≤ 1000 }
-    ensures end { IfSome result (ends.IsEnd (F.held files.old) wanted.entry.machine name.now) }
+    ensures took { waiting.Takes (F.held files.old) (wishes.wishes wanted.entry) name.now (waiting.waiting pending.old.items) lists.old (O.contents out.old)
+        (O.contents out.new) (waiting.waiting pending.new.items) lists.new result }
     ensures stays { F.held files.new ≡ F.held files.old }
 {
-    let Some(list) = name.strip_prefix("@") else {
+    let Some(list) = list_named(name) else {
         return Some(answer_file(alloc, files, name, wanted, logs, out, err));
     };
     if *lists == MOST_LISTS {
@@ -198,13 +234,51 @@ fn take<F: Files, O: Write, E: Write>(
         let _ = writeln!(err, "rvtl: {list}: more than {MOST_LISTS} lists");
         return Some(Ended::Failed);
     }
-    *lists += 1;
-    add_list(alloc, files, list, pending, err).err()
+    match add_list(alloc, files, list, pending, err) {
+        Ok(()) => {
+            *lists += 1;
+            None
+        }
+        Err(ended) => Some(ended),
+    }
+}
+
+/// Goes on with the next name, and counts how its file ended; or answers the status with which the command ends.
+#[tactic(auto, using(crate::proofs::Walking::goes_on_listed, crate::proofs::Walking::goes_on_ended, crate::proofs::Walking::cut_by))]
+fn take_next<F: Files, O: Write, E: Write>(
+    alloc: Global,
+    files: &mut F,
+    name: &str,
+    wanted: Wanted<'_>,
+    logs: &Logs,
+    pending: &mut Vec<String>,
+    lists: &mut u32,
+    counts: &mut Counts,
+    out: &mut O,
+    err: &mut E,
+) -> Result<(), u8>
+    requires states { 0 < wanted.states }
+    requires logs { waiting.are_named logs.now ≡ wishes.are_compared (wishes.wishes wanted) }
+    requires lists { lists.old ≤ 1000 }
+    ensures lists { lists.new ≤ 1000 }
+    ensures counted { IfOk result (λ _. waiting.GoesOn (F.held files.old) (wishes.wishes wanted.entry) name.now (waiting.waiting pending.old.items) lists.old counts.old (O.contents out.old)
+        (O.contents out.new) (waiting.waiting pending.new.items) lists.new counts.new) }
+    ensures cut { IfErr result (waiting.IsCut (F.held files.old) (wishes.wishes wanted.entry) name.now (waiting.waiting pending.old.items) lists.old (O.contents out.old) (O.contents out.new)) }
+    ensures stays { F.held files.new ≡ F.held files.old }
+{
+    let took = take(alloc, files, name, wanted, logs, pending, lists, out, err);
+    if let Some(ended) = took {
+        if let Some(status) = final_status(ended) {
+            return Err(status);
+        }
+        counts.count(ended);
+    }
+    Ok(())
 }
 
 /// Answers the tests of the files that are named, and of those in lists; or the status with which the command ends
 /// before.
-#[tactic(auto, using(crate::proofs::Ends::none_counted, crate::proofs::Ends::one_counted, crate::proofs::Ends::unread_counted))]
+#[tactic(auto, using(crate::proofs::Walking::begun, crate::proofs::Walking::further, crate::proofs::Walking::cut_off, crate::proofs::Walking::cut_first, crate::proofs::Walking::all_counted, crate::proofs::Walking::too_many, crate::proofs::Walking::next_name, crate::proofs::Walking::some_wait, crate::proofs::Walking::none_waits))]
 fn answer_all<F: Files, O: Write, E: Write>(
     alloc: Global,
     files: &mut F,
@@ -214,8 +288,10 @@ fn answer_all<F: Files, O: Write, E: Write>(
     out: &mut O,
     err: &mut E,
 ) -> Result<Counts, u8>
-    requires { 0 < wanted.states }
-    ensures counts { IfOk result (ends.AreCounted (F.held files.old) wanted.entry.machine) }
+    requires states { 0 < wanted.states }
+    requires logs { waiting.are_named logs.now ≡ wishes.are_compared (wishes.wishes wanted) }
+    ensures counts { IfOk result (line.AreCounted (F.held files.old) (wishes.wishes wanted.entry) (texts names.now) (O.contents out.old) (O.contents out.new)) }
+    ensures cut { IfErr result (line.AreCut (F.held files.old) (wishes.wishes wanted.entry) (texts names.now) (O.contents out.old) (O.contents out.new)) }
     ensures stays { F.held files.new ≡ F.held files.old }
 {
     let Ok(mut pending) = pending_of(alloc, names) else {
@@ -227,24 +303,18 @@ fn answer_all<F: Files, O: Write, E: Write>(
         let Some(name) = pending.pop() else {
             break;
         };
-        let name = name.as_str();
-        let took = take(
+        take_next(
             alloc,
             files,
-            name,
+            name.as_str(),
             wanted,
             logs,
             &mut pending,
             &mut lists,
+            &mut counts,
             out,
             err,
-        );
-        if let Some(ended) = took {
-            if let Some(status) = final_status(ended) {
-                return Err(status);
-            }
-            counts.count(ended);
-        }
+        )?;
     }
     if !pending.is_empty() {
         let _ = writeln!(err, "rvtl: more than {MOST_NAMES} names of files and lists");
@@ -254,7 +324,9 @@ fn answer_all<F: Files, O: Write, E: Write>(
 }
 
 /// Tells what doesn't fit, or help.
-fn explain<O: Write, E: Write>(misuse: Misuse, out: &mut O, err: &mut E) -> u8 {
+fn explain<O: Write, E: Write>(misuse: Misuse, out: &mut O, err: &mut E) -> u8
+    ensures { waiting.IsExplained misuse (O.contents out.old) (O.contents out.new) result }
+{
     match misuse {
         Misuse::Help => match put(out, HELP.as_bytes()) {
             Ok(()) => match out.flush() {
@@ -306,7 +378,7 @@ fn stop<E: Write>(status: u8, err: &mut E) -> u8
 }
 
 /// Does what is asked for.
-#[tactic(auto, using(crate::proofs::Ends::all_answered))]
+#[tactic(auto, using(crate::proofs::Walking::answered_none, crate::proofs::Walking::answered_unread, crate::proofs::Walking::answered_cut, crate::proofs::Walking::answered_unflushed, crate::proofs::Walking::answered_all))]
 fn answer<F: Files, O: Write, E: Write>(
     alloc: Global,
     files: &mut F,
@@ -315,17 +387,16 @@ fn answer<F: Files, O: Write, E: Write>(
     err: &mut E,
 ) -> u8
     requires { 0 < request.wanted.states }
-    ensures done { result ≡ 0 → ends.AllAnswered (F.held files.old) request.entry.wanted.machine }
+    ensures answered { line.AreAnswered (F.held files.old) (wishes.of_tests (wishes.wishes request.entry.wanted)) (texts request.entry.names.items) (O.contents out.old) (O.contents out.new) result }
     ensures stays { F.held files.new ≡ F.held files.old }
 {
-    let Request { mut wanted, names } = request;
+    let Request { wanted, names } = request;
+    let wanted = wanted.for_logs();
     let logs = match logs_of(alloc, files, wanted, err) {
         Ok(logs) => logs,
         Err(Ended::NoMemory) => return stop(4, err),
         Err(_) => return 1,
     };
-    // Blocks are compared.
-    wanted.brief = wanted.brief && !logs.are_named();
     let counts = match answer_all(alloc, files, &names, wanted, &logs, out, err) {
         Ok(counts) => counts,
         Err(status) => return stop(status, err),
@@ -340,6 +411,7 @@ fn answer<F: Files, O: Write, E: Write>(
 /// Does what the words behind `litmus` ask for, and answers the exit status: 0 where each file has a test that was answered
 /// or is skipped, 1 where one can't be read or has none, or standard output takes no more, 2 for words that don't fit,
 /// 3 where an answer isn't as the logs have it, 4 out of memory.
+#[tactic(auto, using(crate::proofs::Words::explained, crate::proofs::Words::requested))]
 pub fn litmus_line<S: AsStr, F: Files, O: Write, E: Write>(
     alloc: Global,
     words: &[S],
@@ -348,6 +420,7 @@ pub fn litmus_line<S: AsStr, F: Files, O: Write, E: Write>(
     err: &mut E,
 ) -> u8
     ensures stays { F.held files.new ≡ F.held files.old }
+    ensures done { line.IsLine (map S.text words.now) (F.held files.old) (O.contents out.old) (O.contents out.new) result }
 {
     match request_of(alloc, words) {
         Ok(request) => answer(alloc, files, request, out, err),

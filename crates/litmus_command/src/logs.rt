@@ -1,5 +1,8 @@
 //! Logs with which answers are compared.
 
+ghost use Rattle.std.specs.Prelude.{◌≡◌};
+ghost use Rattle.litmus_command.specs.Waiting as waiting;
+
 use litmus_answers::{Entry, entries_of, is_same, is_within};
 use std::alloc::{AllocError, Global};
 
@@ -24,7 +27,9 @@ fn entry_of<'a>(entries: &'a [Entry], name: &[u8]) -> Option<&'a Entry> {
 
 impl Logs {
     /// Whether answers are compared.
-    pub fn are_named(&self) -> bool {
+    pub fn are_named(&self) -> bool
+        ensures { result ≡ waiting.are_named self.now }
+    {
         self.expect.is_some() || self.seen.is_some()
     }
 

@@ -1,27 +1,28 @@
 //! A test's program, and the machine that runs it.
-ghost use Rattle.std.specs.Prelude.{◌≡◌, IfOk, IfSome, IsTrue, Ok};
+ghost use Rattle.std.specs.Prelude.{◌≡◌, false, IfErr, IfOk, IfSome, IsNone, IsTrue, Ok};
 ghost use Rattle.elf_loader.specs.Raw.{raw_answer};
+ghost use Rattle.machine_types.specs.Config.{is_within_limits};
 ghost use Rattle.architecture_outcomes.specs.Words.{CanShowEach};
 ghost use Rattle.litmus_command.specs.Programs as programs;
 
-use crate::fault::Trouble;
+use crate::fault::Halt;
 use architecture_outcomes::performed_words::can_show;
-use elf_loader::{Image, raw, size_of_kib};
+use elf_loader::{Image, raw};
 use litmus_answers::Layout;
 use machine_types::{Config, MemoryModel};
 use std::alloc::{AllocError, Global};
 use tl_types::LineSize;
 
-/// How many KiB main memory has.
-pub(crate) const KIB: u32 = 64;
+/// How many bytes main memory has.
+const BYTES: u32 = 65_536;
+
+/// No program of more words fits into it.
+const MOST_WORDS: usize = 16_384;
 
 /// How many sets a cache has, and lines a set.
 const SETS: u32 = 4;
 
 const WAYS: u32 = 2;
-
-/// How many bytes a line has.
-const LINE: u32 = 16;
 
 /// A test's program, and the machine that runs it.
 #[derive(Drop)]
@@ -43,23 +44,27 @@ fn bytes_of(alloc: Global, words: &[u32]) -> Result<Vec<u8>, AllocError>
     Ok(bytes)
 }
 
-/// The image of these words, unless memory ends or they are too many.
-fn image_of(alloc: Global, words: &[u32]) -> Option<Image>
-    ensures { IfSome result (λ image. raw_answer (programs.bytes_of words.now) 65536 ≡ Ok image) }
+/// The image of these words, if they fit and memory doesn't end.
+#[tactic(auto, using(crate::proofs::Fitting::no_bytes))]
+fn image_of(alloc: Global, words: &[u32]) -> Result<Image, Halt>
+    ensures image { IfOk result (λ image. raw_answer (programs.bytes_of words.now) 65536 ≡ Ok image) }
+    ensures fault { IfErr result (programs.IsNoImage words.now) }
 {
-    let Ok(bytes) = bytes_of(alloc, words) else {
-        return None;
-    };
-    let size = size_of_kib(KIB)?;
-    match raw(alloc, &bytes, size) {
-        Ok(image) => Some(image),
-        Err(_) => None,
+    if words.len() > MOST_WORDS {
+        return Err(Halt::Unfit);
+    }
+    let bytes = bytes_of(alloc, words)?;
+    match raw(alloc, &bytes, BYTES) {
+        Ok(image) => Ok(image),
+        Err(_) => Err(Halt::NoMemory),
     }
 }
 
 /// Whether an aligned word of the image's memory lies at each address.
+#[tactic(auto, using(crate::proofs::Fitting::hides))]
 fn can_show_each(image: &Image, addresses: &[u32]) -> bool
-    ensures { IsTrue result → CanShowEach image.now addresses.now }
+    ensures shown { IsTrue result → CanShowEach image.now addresses.now }
+    ensures hidden { result ≡ false → programs.HidesOne image.now addresses.now }
 {
     for address in addresses {
         if !can_show(image, *address) {
@@ -69,29 +74,31 @@ fn can_show_each(image: &Image, addresses: &[u32]) -> bool
     true
 }
 
-/// The machine that runs a test of so many harts.
-fn machine_of(harts: u8, model: MemoryModel) -> Option<Config> {
-    let line = LineSize::of_bytes(LINE)?;
-    Config::new(u32::from(harts), SETS, WAYS, line, model)
+/// The machine that runs a test of so many harts, if there can be one.
+fn machine_of(harts: u8, model: MemoryModel) -> Option<Config>
+    ensures machine { IfSome result (programs.IsMachine harts model) }
+    ensures none { IsNone result → is_within_limits harts 4 2 ≡ false }
+{
+    Config::new(u32::from(harts), SETS, WAYS, LineSize::Bytes16, model)
 }
 
-/// The program of a test of so many harts, which is laid out so, and its machine.
+/// The program of a test of so many harts, which is laid out so, and its machine; `Unfit` where they can't be had.
+#[tactic(auto, using(crate::proofs::Fitting::no_image))]
 pub(crate) fn program_of(
     alloc: Global,
     layout: &Layout,
     harts: u8,
     model: MemoryModel,
-) -> Result<Program, Trouble>
-    ensures { IfOk result (programs.IsProgram layout.now) }
+) -> Result<Program, Halt>
+    ensures program { IfOk result (programs.IsProgram harts model layout.now) }
+    ensures fault { IfErr result (programs.IsNoProgram harts layout.now) }
 {
-    let Some(image) = image_of(alloc, &layout.words) else {
-        return Err(Trouble::NoMemory);
-    };
     let Some(config) = machine_of(harts, model) else {
-        return Err(Trouble::NoMemory);
+        return Err(Halt::Unfit);
     };
+    let image = image_of(alloc, &layout.words)?;
     if !can_show_each(&image, &layout.addresses) {
-        return Err(Trouble::NoMemory);
+        return Err(Halt::Unfit);
     }
     Ok(Program { image, config })
 }

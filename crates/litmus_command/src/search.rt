@@ -1,7 +1,8 @@
 //! The ends to which a test's program comes.
-ghost use Rattle.std.specs.Prelude.{◌≡◌, ◌<◌, All, IfOk, IsTrue, map};
-ghost use Rattle.architecture_outcomes.specs.Outcomes.{IsWitnessed, TellsEachEnd, of_found};
+ghost use Rattle.std.specs.Prelude.{◌≡◌, ◌<◌, IfOk, IsTrue, false, map, true};
+ghost use Rattle.architecture_outcomes.specs.Outcomes.{of_found};
 ghost use Rattle.architecture_outcomes.specs.Words.{CanShowEach};
+ghost use Rattle.litmus_command.specs.Answers as answers;
 
 use crate::program::Program;
 use crate::wanted::Wanted;
@@ -51,9 +52,7 @@ fn search_machine(
 ) -> Result<Findings, AllocError>
     requires room { 0 < exploring.limit }
     requires words { CanShowEach program.now.image addresses.now }
-    ensures shown { IfOk result (λ s. All (IsWitnessed program.now.image program.now.config addresses.now) s.outcomes.items) }
-    ensures machine { IfOk result (λ s. IsTrue s.has_machine → TellsEachEnd program.now.image program.now.config addresses.now s.outcomes.items) }
-    ensures whole { IfOk result (λ s. IsTrue s.is_whole → IsTrue s.has_machine) }
+    ensures { IfOk result (answers.IsSearch true program.now addresses.now) }
 {
     let Program { image, config } = program;
     let Exploration {
@@ -69,6 +68,13 @@ fn search_machine(
     })
 }
 
+/// Whether a search left nothing out.
+fn is_whole(reach: Reach) -> bool
+    ensures { IsTrue result → reach ≡ Reach.Whole }
+{
+    matches!(reach, Reach::Whole)
+}
+
 /// What the memory model allows.
 fn search_model(
     alloc: Global,
@@ -79,8 +85,7 @@ fn search_model(
 ) -> Result<Findings, AllocError>
     requires room { 0 < exploring.limit }
     requires words { CanShowEach program.now.image addresses.now }
-    ensures shown { IfOk result (λ s. All (IsWitnessed program.now.image program.now.config addresses.now) s.outcomes.items) }
-    ensures machine { IfOk result (λ s. IsTrue s.has_machine → TellsEachEnd program.now.image program.now.config addresses.now s.outcomes.items) }
+    ensures { IfOk result (answers.IsSearch false program.now addresses.now) }
 {
     let Program { image, config } = program;
     let mut found = explore_architecture(
@@ -89,12 +94,13 @@ fn search_model(
     let outcomes = mem::replace(&mut found.outcomes, Vec::new(alloc));
     Ok(Findings {
         outcomes,
-        is_whole: found.reach == Reach::Whole,
+        is_whole: is_whole(found.reach),
         has_machine: found.machine.is_complete(),
     })
 }
 
 /// The ends that are wanted of a program, with the words of memory at these addresses.
+#[tactic(auto, using(crate::proofs::Machine::as_wanted))]
 pub(crate) fn search(
     alloc: Global,
     program: &Program,
@@ -103,13 +109,7 @@ pub(crate) fn search(
 ) -> Result<Findings, AllocError>
     requires room { 0 < wanted.states }
     requires words { CanShowEach program.now.image addresses.now }
-
-    // Each end is a run's, and what shows it does.
-    ensures shown { IfOk result (λ s. All (IsWitnessed program.now.image program.now.config addresses.now) s.outcomes.items) }
-
-    // Where none of the machine's is said to be missing, none is.
-    ensures machine { IfOk result (λ s. IsTrue s.has_machine → TellsEachEnd program.now.image program.now.config addresses.now s.outcomes.items) }
-    ensures whole { IfOk result (λ s. IsTrue wanted.entry.machine → IsTrue s.is_whole → IsTrue s.has_machine) }
+    ensures { IfOk result (answers.IsSearch wanted.entry.machine program.now addresses.now) }
 {
     let exploring = Exploring {
         limit: wanted.states,

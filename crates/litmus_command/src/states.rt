@@ -1,8 +1,8 @@
 //! The final states of a test.
-ghost use Rattle.std.specs.Prelude.{◌≡◌, ◌≤◌, [], length, IfOk, OnOk};
+ghost use Rattle.std.specs.Prelude.{◌≡◌, ◌≤◌, [], length, IfErr, IfOk, OnOk};
 ghost use Rattle.litmus_command.specs.States as states;
 
-use crate::fault::Trouble;
+use crate::fault::Halt;
 use crate::rows::{counts, row_of, stopped};
 use architecture_outcomes::{Outcome, Way};
 use litmus_answers::Layout;
@@ -34,12 +34,13 @@ fn add(
     filter: &Option<Vec<Step>>,
     outcome: &Outcome,
     rows: &mut Vec<Vec<u32>>,
-) -> Result<(), Trouble>
+) -> Result<(), Halt>
     requires { length layout.now.names.items ≤ 64 }
-    ensures { OnOk result (states.plain rows.new.items ≡ states.added layout.now filter.now (states.plain rows.old.items) outcome.now) }
+    ensures added { OnOk result (states.plain rows.new.items ≡ states.added layout.now filter.now (states.plain rows.old.items) outcome.now) }
+    ensures stop { IfErr result (states.IsStopOf outcome.now) }
 {
     if let Some((hart, cause)) = stopped(&outcome.harts) {
-        return Err(Trouble::Stops { hart, cause });
+        return Err(Halt::Stops { hart, cause });
     }
     let row = row_of(alloc, &layout.told, &outcome.harts, &outcome.words)?;
     if !counts(alloc, layout, filter, &row)? {
@@ -47,20 +48,22 @@ fn add(
     }
     match rows.push(row) {
         Ok(()) => Ok(()),
-        Err(_) => Err(Trouble::NoMemory),
+        Err(_) => Err(Halt::NoMemory),
     }
 }
 
 /// The states of outcomes that count, in their order.
+#[tactic(auto, using(crate::proofs::Stopping::of_first, crate::proofs::Stopping::of_rest))]
 fn found(
     alloc: Global,
     layout: &Layout,
     filter: &Option<Vec<Step>>,
     outcomes: &[Outcome],
     of: Of,
-) -> Result<Vec<Vec<u32>>, Trouble>
+) -> Result<Vec<Vec<u32>>, Halt>
     requires { length layout.now.names.items ≤ 64 }
-    ensures { IfOk result (λ rows. states.plain rows.items ≡ states.found layout.now filter.now of [] outcomes.now) }
+    ensures found { IfOk result (λ rows. states.plain rows.items ≡ states.found layout.now filter.now of [] outcomes.now) }
+    ensures stop { IfErr result (states.IsStopIn outcomes.now) }
 {
     let mut rows = Vec::new(alloc);
     let mut rest = outcomes;
@@ -80,9 +83,10 @@ pub(crate) fn states_of(
     filter: &Option<Vec<Step>>,
     outcomes: &[Outcome],
     of: Of,
-) -> Result<Vec<Vec<u32>>, Trouble>
+) -> Result<Vec<Vec<u32>>, Halt>
     requires { length layout.now.names.items ≤ 64 }
-    ensures { IfOk result (λ rows. states.AreStates layout.now filter.now of outcomes.now rows.items) }
+    ensures states { IfOk result (λ rows. states.AreStates layout.now filter.now of outcomes.now rows.items) }
+    ensures stop { IfErr result (states.IsStopIn outcomes.now) }
 {
     let mut rows = found(alloc, layout, filter, outcomes, of)?;
     rows.sort_unstable();

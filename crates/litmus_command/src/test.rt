@@ -1,9 +1,12 @@
 //! One test's answer.
-ghost use Rattle.std.specs.Prelude.{◌≡◌, ◌<◌, ◌≤◌, ◌++◌, codes, false, length, IfOk, true};
+ghost use Rattle.std.specs.Prelude.{◌≡◌, ◌<◌, ◌≤◌, ◌++◌, codes, false, length, IfErr, IfOk, true};
 ghost use Rattle.litmus_command.specs.Answers as answers;
+ghost use Rattle.litmus_command.specs.Ended as ends;
+ghost use Rattle.litmus_command.specs.States as states;
+ghost use Rattle.litmus_command.specs.Wishes.{wishes};
 ghost use Rattle.litmus_answers.specs.Blocks.{block_text, brief_text};
 
-use crate::fault::Trouble;
+use crate::fault::{Halt, Trouble};
 use crate::program::program_of;
 use crate::search::{Findings, search};
 use crate::states::{Of, states_of};
@@ -81,8 +84,9 @@ fn settles(kind: Kind, answer: Answer) -> bool
 }
 
 /// A block.
-fn block_of(alloc: Global, report: Report<'_>) -> Result<Vec<u8>, Trouble>
-    ensures { IfOk result (λ text. text.items ≡ block_text report.entry) }
+fn block_of(alloc: Global, report: Report<'_>) -> Result<Vec<u8>, Halt>
+    ensures stop { IfErr result (λ halt. halt ≡ Halt.NoMemory) }
+    ensures text { IfOk result (λ text. text.items ≡ block_text report.entry) }
 {
     let mut out = Vec::new(alloc);
     put_block(&mut out, report)?;
@@ -90,8 +94,9 @@ fn block_of(alloc: Global, report: Report<'_>) -> Result<Vec<u8>, Trouble>
 }
 
 /// A line without how often the machine shows what is asked for.
-fn short_line(alloc: Global, report: Report<'_>) -> Result<Vec<u8>, Trouble>
-    ensures { IfOk result (λ text. text.items ≡ brief_text report.entry ++ codes "\n") }
+fn short_line(alloc: Global, report: Report<'_>) -> Result<Vec<u8>, Halt>
+    ensures stop { IfErr result (λ halt. halt ≡ Halt.NoMemory) }
+    ensures text { IfOk result (λ text. text.items ≡ brief_text report.entry ++ codes "\n") }
 {
     let mut out = Vec::new(alloc);
     put_brief(&mut out, report)?;
@@ -100,14 +105,16 @@ fn short_line(alloc: Global, report: Report<'_>) -> Result<Vec<u8>, Trouble>
 }
 
 /// A line with it.
+#[tactic(auto, using(crate::proofs::Answering::starved))]
 fn long_line(
     alloc: Global,
     asked: Asked<'_>,
     search: &Findings,
     report: Report<'_>,
-) -> Result<Vec<u8>, Trouble>
+) -> Result<Vec<u8>, Halt>
     requires { length asked.layout.now.names.items ≤ 64 }
-    ensures { IfOk result (λ text. answers.IsText true false asked.entry.test.now asked.entry.layout.now search.now report.entry text.items) }
+    ensures stop { IfErr result (states.IsStopIn search.now.outcomes.items) }
+    ensures text { IfOk result (λ text. answers.IsText true false asked.entry.test.now asked.entry.layout.now search.now report.entry text.items) }
 {
     let Asked { test, layout } = asked;
     let filter = &test.asking.filter;
@@ -122,15 +129,17 @@ fn long_line(
 }
 
 /// A block, or a line.
+#[tactic(auto, using(crate::proofs::Answering::starved))]
 fn text_of(
     alloc: Global,
     asked: Asked<'_>,
     search: &Findings,
     report: Report<'_>,
     wanted: Wanted<'_>,
-) -> Result<Vec<u8>, Trouble>
+) -> Result<Vec<u8>, Halt>
     requires { length asked.layout.now.names.items ≤ 64 }
-    ensures { IfOk result (λ text. answers.IsText wanted.entry.brief wanted.entry.machine asked.entry.test.now asked.entry.layout.now search.now report.entry text.items) }
+    ensures stop { IfErr result (states.IsStopIn search.now.outcomes.items) }
+    ensures text { IfOk result (λ text. answers.IsText wanted.entry.brief wanted.entry.machine asked.entry.test.now asked.entry.layout.now search.now report.entry text.items) }
 {
     if !wanted.brief {
         return block_of(alloc, report);
@@ -142,14 +151,16 @@ fn text_of(
 }
 
 /// The answer by what a search found.
+#[tactic(auto, using(crate::proofs::Answering::starved))]
 fn reply_by(
     alloc: Global,
     asked: Asked<'_>,
     search: &Findings,
     wanted: Wanted<'_>,
-) -> Result<Reply, Trouble>
+) -> Result<Reply, Halt>
     requires { length asked.layout.now.names.items ≤ 64 }
-    ensures { IfOk result (λ reply. answers.Answers wanted.entry.brief wanted.entry.machine asked.entry.test.now asked.entry.layout.now search.now reply.text.items reply.is_proved) }
+    ensures stop { IfErr result (states.IsStopIn search.now.outcomes.items) }
+    ensures answers { IfOk result (λ reply. answers.Answers wanted.entry.brief wanted.entry.machine asked.entry.test.now asked.entry.layout.now search.now reply.text.items reply.is_proved) }
 {
     let Asked { test, layout } = asked;
     let states = states_of(
@@ -162,14 +173,34 @@ fn reply_by(
     let tally = counted(alloc, asked, &states)?;
     let report = report_of(asked, &states, search.is_whole, tally);
     let text = text_of(alloc, asked, search, report, wanted)?;
-    let is_proved = settles(report.kind, report.answer) || (wanted.machine && search.is_whole);
+    let is_proved = settles(report.kind, report.answer) || search.is_whole;
     Ok(Reply { text, is_proved })
 }
 
+/// The answer to a test that is laid out so.
+#[tactic(auto, using(crate::proofs::Answering::not_had, crate::proofs::Answering::no_room))]
+fn answer_laid_out(
+    alloc: Global,
+    test: &Test,
+    layout: &Layout,
+    wanted: Wanted<'_>,
+) -> Result<Reply, Halt>
+    requires states { 0 < wanted.states }
+    requires few { length layout.now.names.items ≤ 64 }
+    ensures halt { IfErr result (answers.IsHalt test.now layout.now (wishes wanted.entry)) }
+    ensures answer { IfOk result (λ reply. answers.IsAnswer test.now layout.now (wishes wanted.entry) reply.text.items reply.is_proved) }
+{
+    let program = program_of(alloc, layout, test.harts, wanted.model)?;
+    let found = search(alloc, &program, &layout.addresses, wanted)?;
+    reply_by(alloc, Asked { test, layout }, &found, wanted)
+}
+
 /// The answer to the test of this text.
+#[tactic(auto, using(crate::proofs::Answering::no_test, crate::proofs::Answering::no_program, crate::proofs::Answering::is_answered, crate::proofs::Answering::is_halted))]
 pub(crate) fn answer_to(alloc: Global, text: &[u8], wanted: Wanted<'_>) -> Result<Reply, Trouble>
     requires { 0 < wanted.states }
-    ensures { IfOk result (λ reply. answers.AnswersTest text.now wanted.entry.brief wanted.entry.machine reply.text.items reply.is_proved) }
+    ensures answers { IfOk result (λ reply. answers.AnswersTest text.now (wishes wanted.entry) reply.text.items reply.is_proved) }
+    ensures trouble { IfErr result (ends.IsTrouble text.now (wishes wanted.entry)) }
 {
     let test = match test_of(alloc, text) {
         Ok(test) => test,
@@ -179,11 +210,8 @@ pub(crate) fn answer_to(alloc: Global, text: &[u8], wanted: Wanted<'_>) -> Resul
         Ok(layout) => layout,
         Err(stop) => return Err(Trouble::reading(text, stop)),
     };
-    let program = program_of(alloc, &layout, test.harts, wanted.model)?;
-    let found = search(alloc, &program, &layout.addresses, wanted)?;
-    let asked = Asked {
-        test: &test,
-        layout: &layout,
-    };
-    reply_by(alloc, asked, &found, wanted)
+    match answer_laid_out(alloc, &test, &layout, wanted) {
+        Ok(reply) => Ok(reply),
+        Err(halt) => Err(Trouble::Halts(halt)),
+    }
 }

@@ -1,10 +1,13 @@
 use Rattle.std.proofs.Common.{◌≡◌, ◌≤◌}
-use Rattle.litmus_command.specs.Ended.{AreCounted}
+use Rattle.litmus_command.specs.Line.{IsUnderWay}
+use Rattle.litmus_command.specs.Requests.{texts}
+use Rattle.litmus_command.specs.Waiting.{waiting}
+use Rattle.litmus_command.specs.Wishes.{wishes}
 use Rattle.litmus_command.proofs.line.answer_all.Given as goal
 
 abbrev pub invariant-loop : goal.invariant-loop
 invariant-loop g l = record {
-  counted : AreCounted (g.F.Files.held l.initial.files) l.wanted.machine l.counts;
+  way : IsUnderWay (g.F.Files.held l.initial.files) (wishes l.wanted) (texts l.names) (g.O.Write.contents l.initial.out) (g.O.Write.contents l.out) (waiting l.pending.items) l.lists l.counts;
   stays : g.F.Files.held l.files ≡ g.F.Files.held l.initial.files;
   lists : l.lists ≤ 1000;
 }

@@ -8,5 +8,5 @@ pub loop-address-preserved : goal.loop-address-preserved
 loop-address-preserved c =
     All-more (CanShow c.args.image.now) c.args.addresses.now c.loop-address.address-index _ c.loop-address-test.true c.loop-address.invariant (c.can_show.ensures.0 (search rules))
 
-pub returns : goal.returns
-returns c told = subst (All (CanShow c.args.image.now)) (take_all c.loop-address.address-index c.args.addresses.now c.loop-address-test.false) c.loop-address.invariant
+pub returns-clause-shown : goal.returns-clause-shown
+returns-clause-shown c told = subst (All (CanShow c.args.image.now)) (take_all c.loop-address.address-index c.args.addresses.now c.loop-address-test.false) c.loop-address.invariant

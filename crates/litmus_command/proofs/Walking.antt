@@ -1,0 +1,398 @@
+-- Names taken one after another.
+use Rattle.std.proofs.Common.{◌≡◌, ◌⊎◌, ◌∙◌, ◌≤◌, ◌<◌, ◌+◌, ◌≢◌, ℕ, Bool, true, false, List, [], ◌∷◌, ◌++◌, Option, Some, None, ap, ap₂, arith, inl, inr, length, nat_lt, refl, subst, sym}
+use Rattle.std.specs.Prelude.{◌||◌, String, reverse, string_bytes}
+use Rattle.std.specs.Global.{Global}
+use Rattle.std.specs.Io.KnownBytes.{Appends, Keeps}
+use Rattle.std.proofs.lemmas.Bool.{false≢true}
+use Rattle.std.proofs.lemmas.Grind.{flat_map-append}
+use Rattle.std.proofs.lemmas.List.{append-nil, length-map, length-reverse, map-append, reverse-append}
+use Rattle.std.proofs.lemmas.List.Folds.{list_any-append}
+use Rattle.command_files.specs.Contents.{Contents}
+use Rattle.litmus_command.specs.Ended.{Ends, IsUnread, final_status, is_closed, is_cut, is_differing, is_failed, is_starved, status_by}
+use Rattle.litmus_command.specs.Line.{AllPassed, AreAnswered, AreCounted, AreCut, Came, EndsWith, HasFault, HasStarved, IsTaken, IsUnderWay, Walks, all_sent, are_left, ended_as, has, is_list, sent_of}
+use Rattle.litmus_command.specs.Line.Came.{ended, listed}
+use Rattle.litmus_command.specs.Listing.{texts_of}
+use Rattle.litmus_command.specs.Waiting.{GoesOn, HasNames, IsCut, Takes, TellsHow, waiting}
+use Rattle.litmus_command.specs.Wishes.{Wishes, are_compared}
+use Rattle.litmus_command.specs.declared.ended.Counts.{Counts}
+use Rattle.litmus_command.specs.declared.ended.Ended.{Ended}
+use Rattle.litmus_command.specs.declared.ended.Ended.TheVariants.{Answered, Differs, Skipped, Failed, Closed, NoMemory}
+use Rattle.litmus_command.proofs.Ends.{unread_end}
+use Rattle.text_fields.proofs.Written.{appends_kept, appends_none, appends_then}
+
+-- ---- names that wait
+
+pub waiting_append : (old names : List (String Global)) → waiting (old ++ names) ≡ waiting names ++ waiting old
+waiting_append old names = ap texts_of (reverse-append old names) ∙ map-append string_bytes (reverse names) (reverse old)
+
+-- the last one is the next
+pub next_name : (old new : List (String Global)) (name : String Global) → old ≡ new ++ name ∷ [] → waiting old ≡ string_bytes name ∷ waiting new
+next_name old new name is = ap waiting is ∙ waiting_append new (name ∷ [])
+
+waiting_length : (pending : List (String Global)) → length (waiting pending) ≡ length pending
+waiting_length pending = length-map (reverse pending) string_bytes ∙ length-reverse pending
+
+left_some : (names : List (List ℕ)) → 0 < length names → are_left names ≡ true
+left_some [] some = absurd (omega arith)
+left_some (name ∷ names) some = refl
+
+left_none : (names : List (List ℕ)) → length names ≡ 0 → are_left names ≡ false
+left_none [] none = refl
+left_none (name ∷ names) none = absurd (omega arith)
+
+pub some_wait : (pending : List (String Global)) → 0 < length pending → are_left (waiting pending) ≡ true
+some_wait pending some = left_some (waiting pending) (omega (arith, waiting_length pending))
+
+pub none_waits : (pending : List (String Global)) → length pending ≡ 0 → are_left (waiting pending) ≡ false
+none_waits pending none = left_none (waiting pending) (waiting_length pending ∙ none)
+
+-- ---- one name
+
+module _ (held : Contents) (w : Wishes) (name : List ℕ) (before : List (List ℕ)) (lists : ℕ) where
+  not_list : (e : Ended) → is_list name ≡ false → is_list name ≡ true → (is_failed e || is_cut e) ≡ true
+  not_list e no is = absurd (false≢true (sym no ∙ is))
+
+  -- a file
+  pub took_file : (old new : Option (List ℕ)) (e : Ended) → is_list name ≡ false → Ends held w name old new e → Takes held w name before lists old new before lists (Some e)
+  took_file old new e no is = record {
+    what = ended e is.sent;
+    taken = record { is_end = is.is_end; of_list = not_list e no; others = refl; same = refl };
+    went = is.went;
+    how = refl;
+  }
+
+  -- a list too many
+  pub took_none : (old : Option (List ℕ)) → Takes held w name before lists old old before lists (Some Failed)
+  took_none old = record { what = ended Failed []; taken = record { is_end = refl; of_list = λ is. refl; others = refl; same = refl }; went = appends_none old; how = refl }
+
+  unread_fails : (e : Ended) → IsUnread e → (is_failed e || is_cut e) ≡ true
+  unread_fails (Answered is_proved) is = absurd is
+  unread_fails (Differs is_proved) is = absurd is
+  unread_fails Skipped is = absurd is
+  unread_fails Failed is = refl
+  unread_fails Closed is = absurd is
+  unread_fails NoMemory is = refl
+
+  -- a list that can't be read
+  pub took_unread : (old : Option (List ℕ)) (after : List (List ℕ)) (e : Ended) → IsUnread e → after ≡ before → Takes held w name before lists old old after lists (Some e)
+  took_unread old after e is same = record { what = ended e []; taken = record { is_end = unread_end held w name e is; of_list = λ at. unread_fails e is; others = same; same = refl }; went = appends_none old; how = refl }
+
+  -- a list
+  pub took_list : (old : Option (List ℕ)) (list : List ℕ) (after : List (List ℕ)) (count : ℕ) → name ≡ 64 ∷ list → HasNames held list before after → lists < 1000 → count ≡ lists + 1 → Takes held w name before lists old old after count None
+  took_list old list after count is names few more = record {
+    what = listed names.0;
+    taken = record { list = list; is_name = is; holds = names.1; names = names.2; few = few; counted = more };
+    went = appends_none old;
+    how = tt;
+  }
+
+  -- ---- how it goes on
+
+  module _ (old new : Option (List ℕ)) (after : List (List ℕ)) (count : ℕ) where
+    listed_is : (c : Came) → TellsHow None c → (text : List ℕ) × (c ≡ listed text)
+    listed_is (listed text) how = (text, refl)
+    listed_is (ended e sent) how = absurd how
+
+    ended_is : (e : Ended) (c : Came) → TellsHow (Some e) c → (sent : List ℕ) × (c ≡ ended e sent)
+    ended_is e (listed text) how = absurd how
+    ended_is e (ended told sent) how = (sent, ap (λ (x : Ended). ended x sent) how)
+
+    or_no : (b : Bool) → b ≡ (b || false)
+    or_no true = refl
+    or_no false = refl
+
+    -- a list was read
+    pub goes_on_listed : (counts : Counts) → Takes held w name before lists old new after count None → GoesOn held w name before lists counts old new after count counts
+    goes_on_listed counts took =
+        let is = listed_is took.what took.how in
+        record {
+          what = took.what;
+          taken = took.taken;
+          went = took.went;
+          uncut = ap (ended_as is_cut) is.1;
+          failed = or_no _ ∙ ap (λ (c : Came). nat_lt 0 counts.failed || ended_as is_failed c) (sym is.1);
+          differing = or_no _ ∙ ap (λ (c : Came). nat_lt 0 counts.differing || ended_as is_differing c) (sym is.1);
+        }
+
+    stays_on : (e : Ended) → final_status e ≡ None → is_cut e ≡ false
+    stays_on (Answered is_proved) is = refl
+    stays_on (Differs is_proved) is = refl
+    stays_on Skipped is = refl
+    stays_on Failed is = refl
+    stays_on Closed is = absurd cc
+    stays_on NoMemory is = absurd cc
+
+    -- a file's end is counted
+    pub goes_on_ended : (counts counts' : Counts) (e : Ended) → Takes held w name before lists old new after count (Some e) → final_status e ≡ None
+        → nat_lt 0 counts'.failed ≡ (nat_lt 0 counts.failed || is_failed e) → nat_lt 0 counts'.differing ≡ (nat_lt 0 counts.differing || is_differing e)
+        → GoesOn held w name before lists counts old new after count counts'
+    goes_on_ended counts counts' e took on failed differing =
+        let is = ended_is e took.what took.how in
+        record {
+          what = took.what;
+          taken = took.taken;
+          went = took.went;
+          uncut = ap (ended_as is_cut) is.1 ∙ stays_on e on;
+          failed = failed ∙ ap (λ (c : Came). nat_lt 0 counts.failed || ended_as is_failed c) (sym is.1);
+          differing = differing ∙ ap (λ (c : Came). nat_lt 0 counts.differing || ended_as is_differing c) (sym is.1);
+        }
+
+    ends_so : (e : Ended) (sent : List ℕ) (status : ℕ) → final_status e ≡ Some status → ((status ≡ 1) × (ended_as is_closed (ended e sent) ≡ true)) ⊎ ((status ≡ 4) × (ended_as is_starved (ended e sent) ≡ true))
+    ends_so (Answered is_proved) sent status is = absurd cc
+    ends_so (Differs is_proved) sent status is = absurd cc
+    ends_so Skipped sent status is = absurd cc
+    ends_so Failed sent status is = absurd cc
+    ends_so Closed sent status is = let one : status ≡ 1 = cc in inl (one, refl)
+    ends_so NoMemory sent status is = let four : status ≡ 4 = cc in inr (four, refl)
+
+    -- it ends the command
+    pub cut_by : (e : Ended) (status : ℕ) → Takes held w name before lists old new after count (Some e) → final_status e ≡ Some status → IsCut held w name before lists old new status
+    cut_by e status took is =
+        let came = ended_is e took.what took.how in
+        record {
+          what = took.what;
+          after = after;
+          count = count;
+          taken = took.taken;
+          went = took.went;
+          of_cause = subst (λ (c : Came). ((status ≡ 1) × (ended_as is_closed c ≡ true)) ⊎ ((status ≡ 4) × (ended_as is_starved c ≡ true))) (sym came.1) (ends_so e came.0 status is);
+        }
+
+-- ---- all names
+
+module _ (held : Contents) (w : Wishes) where
+  -- and then one more
+  walked_on : (names : List (List ℕ)) (lists : ℕ) (cames : List Came) (name : List ℕ) (left : List (List ℕ)) (count : ℕ) (c : Came) (next : List (List ℕ)) (n : ℕ)
+      → Walks held w names lists cames (name ∷ left) count → IsTaken held w name left count c next n → Walks held w names lists (cames ++ c ∷ []) next n
+  walked_on names lists [] name left count c next n walks taken =
+      subst (λ (at : List (List ℕ)). Walks held w at lists (c ∷ []) next n) walks.0 (next, n, subst (λ (m : ℕ). IsTaken held w name left m c next n) walks.1 taken, (refl, refl))
+  walked_on [] lists (first ∷ cames) name left count c next n walks taken = absurd walks
+  walked_on (x ∷ names) lists (first ∷ cames) name left count c next n walks taken = (walks.0, walks.1, walks.2, walked_on walks.0 walks.1 cames name left count c next n walks.3 taken)
+
+  one_sent : (c : Came) → all_sent (c ∷ []) ≡ sent_of c
+  one_sent c = append-nil (sent_of c)
+
+  has_one : (test : Ended → Bool) (c : Came) → has test (c ∷ []) ≡ ended_as test c
+  has_one test c = go (ended_as test c)
+    where
+      go : (b : Bool) → (b || false) ≡ b
+      go true = refl
+      go false = refl
+
+  or_true : (b : Bool) → (b || true) ≡ true
+  or_true true = refl
+  or_true false = refl
+
+  more_has : (test : Ended → Bool) (cames : List Came) (c : Came) (b d : Bool) → b ≡ has test cames → d ≡ (b || ended_as test c) → d ≡ has test (cames ++ c ∷ [])
+  more_has test cames c b d so now = now ∙ ap₂ (λ (x y : Bool). x || y) so (sym (has_one test c)) ∙ sym (list_any-append (ended_as test) cames (c ∷ []))
+
+  module _ (names : List (List ℕ)) (first : Option (List ℕ)) where
+    more_sent : (old new : Option (List ℕ)) (cames : List Came) (c : Came) → Appends first old (all_sent cames) → Appends old new (sent_of c) → Appends first new (all_sent (cames ++ c ∷ []))
+    more_sent old new cames c so now =
+        subst (Appends first new) (ap (λ (l : List ℕ). all_sent cames ++ l) (sym (one_sent c)) ∙ sym (flat_map-append sent_of cames (c ∷ []))) (appends_then first old new (all_sent cames) (sent_of c) so now)
+
+    -- nothing was taken yet
+    pub begun : (counts : Counts) (left : List (List ℕ)) → left ≡ names → counts.failed ≡ 0 → counts.differing ≡ 0 → IsUnderWay held w names first first left 0 counts
+    begun counts left is failed differing = record { cames = []; walks = (is, refl); sent = appends_none first; uncut = refl; failed = ap (nat_lt 0) failed; differing = ap (nat_lt 0) differing }
+
+    -- one more name was taken
+    pub further : (old new : Option (List ℕ)) (name : List ℕ) (at left next : List (List ℕ)) (lists n : ℕ) (counts counts' : Counts) → IsUnderWay held w names first old at lists counts → at ≡ name ∷ left
+        → GoesOn held w name left lists counts old new next n counts' → IsUnderWay held w names first new next n counts'
+    further old new name at left next lists n counts counts' way is on = record {
+      cames = way.cames ++ on.what ∷ [];
+      walks = walked_on names 0 way.cames name left lists on.what next n (subst (λ (a : List (List ℕ)). Walks held w names 0 way.cames a lists) is way.walks) on.taken;
+      sent = more_sent old new way.cames on.what way.sent on.went;
+      uncut = list_any-append (ended_as is_cut) way.cames (on.what ∷ []) ∙ ap₂ (λ (x y : Bool). x || y) way.uncut (has_one is_cut on.what ∙ on.uncut);
+      failed = more_has is_failed way.cames on.what _ _ way.failed on.failed;
+      differing = more_has is_differing way.cames on.what _ _ way.differing on.differing;
+    }
+
+    last_has : (test : Ended → Bool) (cames : List Came) (c : Came) → ended_as test c ≡ true → has test (cames ++ c ∷ []) ≡ true
+    last_has test cames c is = list_any-append (ended_as test) cames (c ∷ []) ∙ ap (λ (b : Bool). has test cames || b) (has_one test c ∙ is) ∙ or_true (has test cames)
+
+    ends_with : (cames : List Came) (c : Came) (status : ℕ) → ((status ≡ 1) × (ended_as is_closed c ≡ true)) ⊎ ((status ≡ 4) × (ended_as is_starved c ≡ true)) → EndsWith (cames ++ c ∷ []) status
+    ends_with cames c status (inl closed) = inl (closed.0, last_has is_closed cames c closed.1)
+    ends_with cames c status (inr starved) = inr (starved.0, inl (last_has is_starved cames c starved.1))
+
+    -- one ended the command
+    pub cut_off : (old new : Option (List ℕ)) (name : List ℕ) (at left : List (List ℕ)) (lists : ℕ) (counts : Counts) (status : ℕ) → IsUnderWay held w names first old at lists counts → at ≡ name ∷ left
+        → IsCut held w name left lists old new status → AreCut held w names first new status
+    cut_off old new name at left lists counts status way is cut = record {
+      cames = way.cames ++ cut.what ∷ [];
+      left = cut.after;
+      lists = cut.count;
+      walks = walked_on names 0 way.cames name left lists cut.what cut.after cut.count (subst (λ (a : List (List ℕ)). Walks held w names 0 way.cames a lists) is way.walks) cut.taken;
+      sent = more_sent old new way.cames cut.what way.sent cut.went;
+      of_cause = ends_with way.cames cut.what status cut.of_cause;
+    }
+
+    -- there was no memory for the names
+    pub cut_first : AreCut held w names first first 4
+    cut_first = record { cames = []; left = names; lists = 0; walks = (refl, refl); sent = appends_none first; of_cause = inr (refl, inr refl) }
+
+    or_left : (b : Bool) (left : List (List ℕ)) → are_left left ≡ false → b ≡ (b || are_left left)
+    or_left true left is = refl
+    or_left false left is = sym is
+
+    -- all were taken
+    pub all_counted : (new : Option (List ℕ)) (left : List (List ℕ)) (lists : ℕ) (counts : Counts) → IsUnderWay held w names first new left lists counts → are_left left ≡ false → AreCounted held w names first new counts
+    all_counted new left lists counts way none = record { cames = way.cames; left = left; lists = lists; walks = way.walks; sent = way.sent; uncut = way.uncut; failed = way.failed ∙ or_left _ left none; differing = way.differing }
+
+    or_yes : (b : Bool) (left : List (List ℕ)) → are_left left ≡ true → (b || true) ≡ (b || are_left left)
+    or_yes true left is = refl
+    or_yes false left is = sym is
+
+    or_none : (b : Bool) → (b || false) ≡ b
+    or_none true = refl
+    or_none false = refl
+
+    -- they are too many
+    pub too_many : (new : Option (List ℕ)) (left : List (List ℕ)) (lists : ℕ) (counts counts' : Counts) → IsUnderWay held w names first new left lists counts → are_left left ≡ true
+        → nat_lt 0 counts'.failed ≡ (nat_lt 0 counts.failed || is_failed Failed) → nat_lt 0 counts'.differing ≡ (nat_lt 0 counts.differing || is_differing Failed) → AreCounted held w names first new counts'
+    too_many new left lists counts counts' way some failed differing = record {
+      cames = way.cames;
+      left = left;
+      lists = lists;
+      walks = way.walks;
+      sent = way.sent;
+      uncut = way.uncut;
+      failed = failed ∙ ap (λ (b : Bool). b || true) way.failed ∙ or_yes _ left some;
+      differing = differing ∙ or_none _ ∙ way.differing;
+    }
+
+    -- ---- the status
+
+    kept_sent : (mid new : Option (List ℕ)) (text : List ℕ) → Appends first mid text → Keeps mid new → Appends first new text
+    kept_sent mid new text so kept = subst (Appends first new) (append-nil text) (appends_then first mid new text [] so (appends_kept mid new kept))
+
+    cut_within : (cames : List Came) (status : ℕ) → EndsWith cames status → status ≤ 4
+    cut_within cames status (inl one) = omega (arith, one.0)
+    cut_within cames status (inr four) = omega (arith, four.0)
+
+    cut_not : (cames : List Came) (status n : ℕ) → EndsWith cames status → status ≡ n → n ≢ 1 → n ≢ 4 → ⊥
+    cut_not cames status n (inl one) is no1 no4 = no1 (sym is ∙ one.0)
+    cut_not cames status n (inr four) is no1 no4 = no4 (sym is ∙ four.0)
+
+    cut_faulted : (cames : List Came) (left : List (List ℕ)) (status : ℕ) → EndsWith cames status → status ≡ 1 → HasFault w cames left
+    cut_faulted cames left status (inl one) is = inr (inr (inl one.1))
+    cut_faulted cames left status (inr four) is = absurd (omega (arith, four.0))
+
+    cut_starved : (cames : List Came) (status : ℕ) → EndsWith cames status → status ≡ 4 → HasStarved cames
+    cut_starved cames status (inl one) is = absurd (omega (arith, one.0))
+    cut_starved cames status (inr four) is = four.1
+
+    -- the command was ended
+    pub answered_cut : (new : Option (List ℕ)) (status : ℕ) → AreCut held w names first new status → AreAnswered held w names first new status
+    answered_cut new status cut = record {
+      cames = cut.cames;
+      left = cut.left;
+      lists = cut.lists;
+      walks = cut.walks;
+      sent = cut.sent;
+      within = cut_within cut.cames status cut.of_cause;
+      fitting = λ two. cut_not cut.cames status 2 cut.of_cause two (λ e. absurd (omega arith)) (λ e. absurd (omega arith));
+      passed = λ none. absurd (cut_not cut.cames status 0 cut.of_cause none (λ e. absurd (omega arith)) (λ e. absurd (omega arith)));
+      differing = λ three. absurd (cut_not cut.cames status 3 cut.of_cause three (λ e. absurd (omega arith)) (λ e. absurd (omega arith)));
+      faulted = cut_faulted cut.cames cut.left status cut.of_cause;
+      starved = cut_starved cut.cames status cut.of_cause;
+    }
+
+    -- there was no memory
+    pub answered_none : (status : ℕ) → status ≡ 4 → AreAnswered held w names first first status
+    answered_none status is = answered_cut first status (record { cames = []; left = names; lists = 0; walks = (refl, refl); sent = appends_none first; of_cause = inr (is, inr refl) })
+
+    -- a log can't be read
+    pub answered_unread : are_compared w ≡ true → AreAnswered held w names first first 1
+    answered_unread compared = record {
+      cames = [];
+      left = names;
+      lists = 0;
+      walks = (refl, refl);
+      sent = appends_none first;
+      within = omega arith;
+      fitting = λ two. absurd (omega arith);
+      passed = λ none. absurd (omega arith);
+      differing = λ three. absurd (omega arith);
+      faulted = λ one. inl (compared, refl);
+      starved = λ four. absurd (omega arith);
+    }
+
+    neither : (a b : Bool) → (a || b) ≡ false → (a ≡ false) × (b ≡ false)
+    neither true b e = absurd cc
+    neither false b e = (refl, e)
+
+    none_left : (left : List (List ℕ)) → are_left left ≡ false → left ≡ []
+    none_left [] e = refl
+    none_left (name ∷ left) e = absurd cc
+
+    fault_behind : (cames : List Came) (left : List (List ℕ)) (fails : Bool) → fails ≡ (has is_failed cames || are_left left) → HasFault w cames left
+    fault_behind cames left true is = inr (inl (sym is))
+    fault_behind cames left false is = inr (inr (inr (none_left left (neither (has is_failed cames) (are_left left) (sym is)).1)))
+
+    -- standard output takes no more at the end
+    pub answered_unflushed : (mid new : Option (List ℕ)) (counts : Counts) → AreCounted held w names first mid counts → Keeps mid new → AreAnswered held w names first new 1
+    answered_unflushed mid new counts counted kept = record {
+      cames = counted.cames;
+      left = counted.left;
+      lists = counted.lists;
+      walks = counted.walks;
+      sent = kept_sent mid new _ counted.sent kept;
+      within = omega arith;
+      fitting = λ two. absurd (omega arith);
+      passed = λ none. absurd (omega arith);
+      differing = λ three. absurd (omega arith);
+      faulted = λ one. fault_behind counted.cames counted.left (nat_lt 0 counts.failed) counted.failed;
+      starved = λ four. absurd (omega arith);
+    }
+
+    few : (a b : Bool) → status_by a b ≤ 4
+    few true b = omega arith
+    few false true = omega arith
+    few false false = omega arith
+
+    not_two : (a b : Bool) → status_by a b ≡ 2 → ⊥
+    not_two true b e = absurd cc
+    not_two false true e = absurd cc
+    not_two false false e = absurd cc
+
+    at_none : (a b : Bool) → status_by a b ≡ 0 → (a ≡ false) × (b ≡ false)
+    at_none true b e = absurd cc
+    at_none false true e = absurd cc
+    at_none false false e = (refl, refl)
+
+    at_one : (a b : Bool) → status_by a b ≡ 1 → a ≡ true
+    at_one true b e = refl
+    at_one false true e = absurd cc
+    at_one false false e = absurd cc
+
+    not_four : (a b : Bool) → status_by a b ≡ 4 → ⊥
+    not_four true b e = absurd cc
+    not_four false true e = absurd cc
+    not_four false false e = absurd cc
+
+    at_three : (a b : Bool) → status_by a b ≡ 3 → (a ≡ false) × (b ≡ true)
+    at_three true b e = absurd cc
+    at_three false true e = (refl, refl)
+    at_three false false e = absurd cc
+
+    passed_so : (counts : Counts) (new : Option (List ℕ)) (differs : Bool) (counted : AreCounted held w names first new counts) → nat_lt 0 counts.failed ≡ false → nat_lt 0 counts.differing ≡ differs → AllPassed counted.cames counted.left differs
+    passed_so counts new differs counted failed differing =
+        let parts = neither (has is_failed counted.cames) (are_left counted.left) (sym counted.failed ∙ failed) in
+        record { all = none_left counted.left parts.1; none_failed = parts.0; uncut = counted.uncut; differ = sym counted.differing ∙ differing }
+
+    -- all were taken, and the status says how that ended
+    pub answered_all : (mid new : Option (List ℕ)) (counts : Counts) (status : ℕ) → AreCounted held w names first mid counts → Keeps mid new → status ≡ status_by (nat_lt 0 counts.failed) (nat_lt 0 counts.differing)
+        → AreAnswered held w names first new status
+    answered_all mid new counts status counted kept is = record {
+      cames = counted.cames;
+      left = counted.left;
+      lists = counted.lists;
+      walks = counted.walks;
+      sent = kept_sent mid new _ counted.sent kept;
+      within = subst (λ (n : ℕ). n ≤ 4) (sym is) (few (nat_lt 0 counts.failed) (nat_lt 0 counts.differing));
+      fitting = λ two. not_two (nat_lt 0 counts.failed) (nat_lt 0 counts.differing) (sym is ∙ two);
+      passed = λ none. let parts = at_none (nat_lt 0 counts.failed) (nat_lt 0 counts.differing) (sym is ∙ none) in passed_so counts mid false counted parts.0 parts.1;
+      differing = λ three. let parts = at_three (nat_lt 0 counts.failed) (nat_lt 0 counts.differing) (sym is ∙ three) in passed_so counts mid true counted parts.0 parts.1;
+      faulted = λ one. inr (inl (sym counted.failed ∙ at_one (nat_lt 0 counts.failed) (nat_lt 0 counts.differing) (sym is ∙ one)));
+      starved = λ four. absurd (not_four (nat_lt 0 counts.failed) (nat_lt 0 counts.differing) (sym is ∙ four));
+    }

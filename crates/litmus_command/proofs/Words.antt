@@ -1,0 +1,95 @@
+-- Words read one after another.
+use Rattle.std.proofs.Common.{◌≡◌, ℕ, true, false, List, [], ◌∷◌, ◌++◌, Some, None, Ok, Err, inl, inr, refl, subst, sym, Option, Result}
+use Rattle.command_files.specs.Contents.{Contents}
+use Rattle.litmus_command.specs.Line.{AreAnswered, IsLineOf}
+use Rattle.std.specs.Borrow.{Bor}
+use Rattle.litmus_command.specs.Requests.{IsWhy, ReadsOn, Takes, read_on, texts}
+use Rattle.litmus_command.specs.declared.wanted.Reading.{Reading as State}
+use Rattle.litmus_command.specs.Waiting.{IsExplained}
+use Rattle.litmus_command.specs.Wishes.{Reading, Wishes, alone, is_option, of_tests, read, valued, wishes}
+use Rattle.litmus_command.specs.declared.wanted.Misuse.{Misuse}
+use Rattle.litmus_command.specs.declared.wanted.Misuse.TheVariants as misuse
+use Rattle.litmus_command.proofs.Walking.{answered_none}
+
+-- ---- one more word
+
+module _ (w w' : Wishes) (names words : List (List ℕ)) (why : Misuse) (word : List ℕ) where
+  pub valued_on : (option : List ℕ) → valued option word w ≡ Ok w' → read (Some option) w names (word ∷ words) ≡ read None w' names words
+  valued_on option is = rw is refl
+
+  pub valued_err : (option : List ℕ) → valued option word w ≡ Err why → read (Some option) w names (word ∷ words) ≡ Err why
+  valued_err option is = rw is refl
+
+  pub alone_on : is_option word ≡ true → alone word w ≡ Some (Ok w') → read None w names (word ∷ words) ≡ read None w' names words
+  alone_on option is = rw (option, is) refl
+
+  pub alone_err : is_option word ≡ true → alone word w ≡ Some (Err why) → read None w names (word ∷ words) ≡ Err why
+  alone_err option is = rw (option, is) refl
+
+  pub waits_on : is_option word ≡ true → alone word w ≡ None → read None w names (word ∷ words) ≡ read (Some word) w names words
+  waits_on option is = rw (option, is) refl
+
+  pub name_on : is_option word ≡ false → read None w names (word ∷ words) ≡ read None w (names ++ word ∷ []) words
+  name_on option = rw option refl
+
+pub why_is : (said : Reading) (why : Misuse) → said ≡ Err why → IsWhy said why
+why_is said misuse.NoMemory is = tt
+why_is said misuse.Help is = is
+why_is said misuse.Option is = is
+why_is said misuse.Value is = is
+why_is said misuse.NoFile is = is
+
+-- ---- what was read, and one more word
+
+module _ (old new : State) (word : List ℕ) where
+  -- an option waits: the word is its value
+  pub reads_value : {T : Type 0} (option : Bor (List ℕ)) (taken : Result T Misuse) → old.waiting ≡ Some option → new.waiting ≡ None → new.names ≡ old.names → Takes (valued option.now word (wishes old.wanted)) (wishes new.wanted) taken
+      → ReadsOn old new word taken
+  reads_value option (Ok done) waits none same takes words =
+      rw (waits, none, same) (valued_on (wishes old.wanted) (wishes new.wanted) (texts old.names.items) words misuse.NoMemory word option.now takes)
+  reads_value option (Err why) waits none same takes words =
+      why_is _ why (rw waits (valued_err (wishes old.wanted) (wishes new.wanted) (texts old.names.items) words why word option.now takes))
+
+  -- no option waits, and the word is none that can stand so
+  pub reads_refused : (why : Misuse) → old.waiting ≡ None → is_option word ≡ true → alone word (wishes old.wanted) ≡ Some (Err why) → (words : List (List ℕ)) → IsWhy (read_on old (word ∷ words)) why
+  reads_refused why none option is words = why_is _ why (rw none (alone_err (wishes old.wanted) (wishes new.wanted) (texts old.names.items) words why word option is))
+
+  -- it is an option that stands alone
+  pub reads_alone : old.waiting ≡ None → new.waiting ≡ None → new.names ≡ old.names → is_option word ≡ true → alone word (wishes old.wanted) ≡ Some (Ok (wishes new.wanted)) → (words : List (List ℕ)) → read_on old (word ∷ words) ≡ read_on new words
+  reads_alone none still same option is words = rw (none, still, same) (alone_on (wishes old.wanted) (wishes new.wanted) (texts old.names.items) words misuse.NoMemory word option is)
+
+  -- or one that waits for its value
+  pub reads_waiting : (option : Bor (List ℕ)) → old.waiting ≡ None → new.waiting ≡ Some option → option.now ≡ word → new.names ≡ old.names → wishes new.wanted ≡ wishes old.wanted → is_option word ≡ true → alone word (wishes old.wanted) ≡ None
+      → (words : List (List ℕ)) → read_on old (word ∷ words) ≡ read_on new words
+  reads_waiting option none waits is same wanted at others words = rw (none, waits, same, wanted, is) (waits_on (wishes old.wanted) (wishes new.wanted) (texts old.names.items) words misuse.NoMemory word at others)
+
+  -- it is a file's name, or a list's
+  pub reads_name : old.waiting ≡ None → new.waiting ≡ None → new.wanted ≡ old.wanted → texts new.names.items ≡ texts old.names.items ++ word ∷ [] → is_option word ≡ false → (words : List (List ℕ)) → read_on old (word ∷ words) ≡ read_on new words
+  reads_name none still wanted more plain words = rw (none, still, wanted, more) (name_on (wishes old.wanted) (wishes old.wanted) (texts old.names.items) words misuse.NoMemory word plain)
+
+-- why nothing can be done, by what the rest asks for
+pub why_on : (said whole : Reading) (why : Misuse) → said ≡ whole → IsWhy said why → IsWhy whole why
+why_on said whole why is so = subst (λ (r : Reading). IsWhy r why) is so
+
+-- ---- the whole line
+
+module _ (held : Contents) (old new : Option (List ℕ)) (status : ℕ) where
+  no_memory : (said : Reading) → status ≡ 4 → new ≡ old → IsLineOf said held old new status
+  no_memory (Err misuse.Help) four same = inr four
+  no_memory (Err misuse.Option) four same = (inr four, same)
+  no_memory (Err misuse.Value) four same = (inr four, same)
+  no_memory (Err misuse.NoFile) four same = (inr four, same)
+  no_memory (Err misuse.NoMemory) four same = (inr four, same)
+  no_memory (Ok request) four same = subst (λ (n : Option (List ℕ)). AreAnswered held (of_tests request.0) request.1 old n status) (sym same) (answered_none held (of_tests request.0) request.1 old status four)
+
+  -- words that don't fit, or ask for help
+  pub explained : (said : Reading) (why : Misuse) → IsWhy said why → IsExplained why old new status → IsLineOf said held old new status
+  explained said misuse.NoMemory why is = no_memory said is.0 is.1
+  explained said misuse.Help why is = subst (λ (s : Reading). IsLineOf s held old new status) (sym why) (inl is)
+  explained said misuse.Option why is = subst (λ (s : Reading). IsLineOf s held old new status) (sym why) (inl is.0, is.1)
+  explained said misuse.Value why is = subst (λ (s : Reading). IsLineOf s held old new status) (sym why) (inl is.0, is.1)
+  explained said misuse.NoFile why is = subst (λ (s : Reading). IsLineOf s held old new status) (sym why) (inl is.0, is.1)
+
+  -- words that ask for tests
+  pub requested : (said : Reading) (w : Wishes) (names : List (List ℕ)) → said ≡ Ok (w, names) → AreAnswered held (of_tests w) names old new status → IsLineOf said held old new status
+  requested said w names is answered = subst (λ (s : Reading). IsLineOf s held old new status) (sym is) answered

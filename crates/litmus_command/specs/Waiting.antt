@@ -1,0 +1,66 @@
+-- What the parts of the command do with names that wait.
+use Rattle.std.specs.Prelude.{ℕ, ◌≡◌, ◌⊎◌, ◌||◌, ◌≤◌, Bool, true, false, List, ◌++◌, Option, Some, None, String, is_some, nat_lt, reverse}
+use Rattle.std.specs.Io.KnownBytes.{Appends}
+use Rattle.std.specs.Global.{Global}
+use Rattle.command_files.specs.Contents.{Contents, HoldsBytes}
+use Rattle.litmus_command.specs.declared.ended.Counts.{Counts}
+use Rattle.litmus_command.specs.declared.ended.Ended.{Ended}
+use Rattle.litmus_command.specs.declared.logs.Logs.{Logs}
+use Rattle.litmus_command.specs.declared.wanted.Misuse.{Misuse}
+use Rattle.litmus_command.specs.declared.wanted.Misuse.TheVariants as misuse
+use Rattle.litmus_command.specs.Ended.{is_closed, is_cut, is_differing, is_failed, is_starved}
+use Rattle.litmus_command.specs.Line.{Came, IsTaken, IsTold, ended_as, sent_of}
+use Rattle.litmus_command.specs.Line.Came.{ended, listed}
+use Rattle.litmus_command.specs.Listing.{names_in, texts_of}
+use Rattle.litmus_command.specs.Wishes.{Wishes}
+
+abbrev pub are_named : Logs → Bool
+are_named logs = is_some logs.expect || is_some logs.seen
+
+-- the names that wait, the last one being the first to be taken
+abbrev pub waiting : List (String Global) → List (List ℕ)
+waiting pending = texts_of (reverse pending)
+
+-- the names of a list go before those that wait
+abbrev pub HasNames : Contents → (list : List ℕ) → (before after : List (List ℕ)) → Type 0
+HasNames held list before after = (text : List ℕ) × HoldsBytes held list text × (after ≡ names_in list text ++ before)
+
+-- what is told of a name: a list's names wait now, or it ended so
+abbrev pub TellsHow : Option Ended → Came → Type 0
+TellsHow None (listed text) = Unit {0}
+TellsHow None (ended how sent) = ⊥
+TellsHow (Some how) (listed text) = ⊥
+TellsHow (Some how) (ended told sent) = told ≡ how
+
+-- that came of a name, and no more went out
+pub record Takes (held : Contents) (w : Wishes) (name : List ℕ) (before : List (List ℕ)) (lists : ℕ) (old new : Option (List ℕ)) (after : List (List ℕ)) (count : ℕ) (told : Option Ended) : Type 0 where
+  pub what : Came
+  pub taken : IsTaken held w name before lists what after count
+  pub went : Appends old new (sent_of what)
+  pub how : TellsHow told what
+
+-- and it is counted, and doesn't end the command
+pub record GoesOn (held : Contents) (w : Wishes) (name : List ℕ) (before : List (List ℕ)) (lists : ℕ) (counts : Counts) (old new : Option (List ℕ)) (after : List (List ℕ)) (count : ℕ) (counts' : Counts) : Type 0 where
+  pub what : Came
+  pub taken : IsTaken held w name before lists what after count
+  pub went : Appends old new (sent_of what)
+  pub uncut : ended_as is_cut what ≡ false
+  pub failed : nat_lt 0 counts'.failed ≡ (nat_lt 0 counts.failed || ended_as is_failed what)
+  pub differing : nat_lt 0 counts'.differing ≡ (nat_lt 0 counts.differing || ended_as is_differing what)
+
+-- or it ends the command
+pub record IsCut (held : Contents) (w : Wishes) (name : List ℕ) (before : List (List ℕ)) (lists : ℕ) (old new : Option (List ℕ)) (status : ℕ) : Type 0 where
+  pub what : Came
+  pub after : List (List ℕ)
+  pub count : ℕ
+  pub taken : IsTaken held w name before lists what after count
+  pub went : Appends old new (sent_of what)
+  pub of_cause : ((status ≡ 1) × (ended_as is_closed what ≡ true)) ⊎ ((status ≡ 4) × (ended_as is_starved what ≡ true))
+
+-- what is told of words that don't fit, or ask for help
+abbrev pub IsExplained : Misuse → (old new : Option (List ℕ)) → (status : ℕ) → Type 0
+IsExplained misuse.Help old new status = status ≤ 1
+IsExplained misuse.NoMemory old new status = (status ≡ 4) × (new ≡ old)
+IsExplained misuse.Option old new status = (status ≡ 2) × (new ≡ old)
+IsExplained misuse.Value old new status = (status ≡ 2) × (new ≡ old)
+IsExplained misuse.NoFile old new status = (status ≡ 2) × (new ≡ old)
