@@ -23,7 +23,8 @@ use Rattle.fence_audit.specs.declared.auditing.Parts.{Parts}
 use Rattle.machine_types.specs.declared.config.Config.{Config}
 use Rattle.fence_audit.specs.declared.answers.Answer.TheVariants.{Bounded, Fewer, Other, Same}
 use Rattle.fence_audit.specs.declared.searches.Search.{Search}
-use Rattle.image_orderings.specs.Forms.{weaker_words}
+use Rattle.image_orderings.proofs.Variants.{variant_of_variant}
+use Rattle.image_orderings.specs.Forms.{IsVariant, weaker_words}
 use Rattle.image_orderings.specs.Programs.{patches_with, patches_without}
 use Rattle.image_orderings.specs.Replaced.{addresses_of}
 use Rattle.image_orderings.specs.declared.orderings.ImageOrdering.{ImageOrdering}
@@ -174,6 +175,10 @@ pub fence_weighed : (image : Initial) (searches : List Search) (own : List Patch
     → All (IsWeighed searches own o.address) (weaker_words word) → AreWeighed image searches own o
 fence_weighed image searches own o word is at all =
     inr (subst (λ (p : Part). AreWeighedBy p searches own o.address (word_at image o.address)) (sym is) (subst (λ w. All (IsWeighed searches own o.address) (weaker_words w)) at all))
+
+-- words in place of one that differs from the image's at most in what it orders
+pub variants_of : (image : Initial) (address word : ℕ) (words : List ℕ) → IsVariant (word_at image address) word → All (IsVariant word) words → All (IsVariant (word_at image address)) words
+variants_of image address word words first all = All-weaker (IsVariant word) (IsVariant (word_at image address)) (λ w is. variant_of_variant (word_at image address) word w first is) words all
 
 -- what a call's success says
 pub ok_more : {T : Type 0} (P Q : Type 0) (r : Result T AllocError) → (P → Q) → OnOk r P → OnOk r Q
