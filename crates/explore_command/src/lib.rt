@@ -12,6 +12,7 @@ mod keeping;
 mod laws;
 mod no_outcomes;
 mod sample;
+mod seeking;
 mod show;
 mod sparing;
 
