@@ -4,6 +4,7 @@
 #   the n! orders.
 # - ticket_unfenced, without: the machine performs loads in order, with 2 harts 1 2 and 2 1. RVWMO lets the counter be
 #   read before the wait has ended: then both read 0, and it may be 1 1 too.
+# - ticket_marked, with .LMARKED: the same, with a nop where `rvtl fences --allow` is to find which fence is missing.
 
         .include "rvtl.inc"
 
@@ -16,6 +17,7 @@ _start: li      t0, 0x80000100          # the next ticket
 wait:   lw      t5, 0(t1)
         bne     t5, t4, wait
         when    FENCED, fence r, rw     # the counter behind the wait: else RVWMO lets it be read before
+        when    .LMARKED, nop           # where that fence is missing
         add_one t2
         fence   rw, w                   # the counter before the next one is served
         addi    t4, t4, 1

@@ -1,3 +1,4 @@
+pub mod Allowing
 pub mod Composition
 pub mod Ends
 pub mod Faults

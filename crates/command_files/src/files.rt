@@ -23,10 +23,7 @@ pub trait Files {
     /// Whether the two names are of one file, as far as that can be told.
     fn are_same(&mut self, one: &str, other: &str) -> bool
         ensures told { are_one one.now other.now → result ≡ true }
-        ensures stays { held self.new ≡ held self.old }
-    {
-        one == other
-    }
+        ensures stays { held self.new ≡ held self.old };
 
     /// Whether standard output goes into the file of this name, as far as that can be told.
     fn is_output(&mut self, _name: &str) -> bool

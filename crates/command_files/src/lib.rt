@@ -2,16 +2,19 @@
 //! how harts ended, and why a command ends with another status than 0.
 #![tactic(auto)]
 
+mod allowing;
 mod ends;
 mod escaped;
 mod fault;
 mod files;
 mod input;
 mod machines;
+mod no_outcomes;
 mod reading;
 mod remarked;
 mod system;
 
+pub use allowing::{Judgement, allow_file};
 pub use ends::print_ends;
 pub use escaped::Escaped;
 pub use event_stream;

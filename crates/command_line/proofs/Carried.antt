@@ -18,8 +18,8 @@ use Rattle.command_line.specs.Telling.{ComesBeforeFiles, IsFaultOfCommand, IsSho
 use Rattle.fences_command.specs.Fencing.{IsAuditTold, IsFencesFault}
 use Rattle.explore_command.specs.Exploring.{IsExploreFault, LeavesPart}
 use Rattle.explore_command.specs.Keeping.{SparesOthers}
-use Rattle.explore_command.specs.declared.judging.Judgement.{Judgement}
-use Rattle.explore_command.specs.declared.judging.Judgement.TheVariants.{Allowed, NotAllowed}
+use Rattle.command_files.specs.declared.allowing.Judgement.{Judgement}
+use Rattle.command_files.specs.declared.allowing.Judgement.TheVariants.{Allowed, NotAllowed}
 
 pub if_err : {T : Type 0} (P Q : Fault → Type 0) (r : Result T Fault) → ((fault : Fault) → P fault → Q fault) → IfErr r P → IfErr r Q
 if_err P Q (Ok x) law so = tt

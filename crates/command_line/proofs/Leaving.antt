@@ -25,7 +25,7 @@ use Rattle.trace_commands.specs.Pages.{IsHalfPaged, LeavesOfPage}
 use Rattle.command_settings.specs.declared.wanted.Replay.{Replay as Played}
 use Rattle.explore_command.proofs.Explored.{all_of}
 use Rattle.explore_command.proofs.Faults.{some_part}
-use Rattle.explore_command.specs.declared.judging.Judgement.{Judgement}
+use Rattle.command_files.specs.declared.allowing.Judgement.{Judgement}
 use Rattle.explore_command.specs.Showing.{IsFirstOf}
 use Rattle.text_fields.specs.Writing.{Begins}
 

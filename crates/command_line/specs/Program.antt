@@ -6,7 +6,7 @@ use Rattle.command_files.specs.Contents.{Contents}
 use Rattle.command_line.specs.Running.{AreMisused, HasNamed, HasNoted, IsCarriedOut, IsNotLegal, IsNoted, IsUnprinted, Spares}
 use Rattle.command_line.specs.Telling.{HasToldFault}
 use Rattle.command_settings.specs.Refusals.{IsFitting, IsForHelp, IsUnfit}
-use Rattle.explore_command.specs.declared.judging.Judgement.TheVariants.{NotAllowed}
+use Rattle.command_files.specs.declared.allowing.Judgement.TheVariants.{NotAllowed}
 use Rattle.litmus_command.specs.Line.{IsLine}
 
 -- behind the program's name stands `litmus`

@@ -10,8 +10,8 @@ use Rattle.fences_command.specs.Fencing.{IsAuditCutOff, IsAuditTold}
 use Rattle.explore_command.specs.Exploring.{ExplorationHas, ExplorationRefusals, IsExplorationTold}
 use Rattle.explore_command.specs.Judging.{IsToldBy}
 use Rattle.explore_command.specs.Keeping.{IsScriptFile}
-use Rattle.explore_command.specs.declared.judging.Judgement.{Judgement}
-use Rattle.explore_command.specs.declared.judging.Judgement.TheVariants.{Allowed, NotAllowed}
+use Rattle.command_files.specs.declared.allowing.Judgement.{Judgement}
+use Rattle.command_files.specs.declared.allowing.Judgement.TheVariants.{Allowed, NotAllowed}
 use Rattle.explore_command.specs.ModelKeeping.{IsFileInNamed}
 use Rattle.explore_command.specs.Searching.{IsSearchNoted, IsSearched, SearchHas}
 use Rattle.explore_command.specs.Sampling.{IsSampleTold, SampleHas, SampleRefusals}

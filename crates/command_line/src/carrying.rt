@@ -13,9 +13,9 @@ ghost use Rattle.explore_command.specs.Keeping.{SparesOthers};
 ghost use Rattle.explore_command.specs.Showing.{IsFirstOf};
 
 use command_files::event_stream::Strictness;
-use command_files::{Fault, Files, Unshown};
+use command_files::{Fault, Files, Judgement, Unshown};
 use command_settings::{Check, Explain, Explore, Settings, Show};
-use explore_command::{Judgement, architecture_files, explore_files, sample_files, show_files};
+use explore_command::{architecture_files, explore_files, sample_files, show_files};
 use fences_command::fences_files;
 use message_judge::{MessageVerdict, Profile};
 use progress_line::Progress;

@@ -7,9 +7,8 @@ ghost use Rattle.command_line.specs.Running.{AreMisused, HasNamed, HasNoted, IsC
 ghost use Rattle.command_line.specs.Telling.{HasToldFault};
 
 use crate::carrying::carry_out;
-use command_files::{Fault, Files};
+use command_files::{Fault, Files, Judgement};
 use command_settings::{SettingsError, settings};
-use explore_command::Judgement;
 use progress_line::Progress;
 use std::alloc::Global;
 use std::convert::AsStr;

@@ -9,4 +9,4 @@ pub mod Wholes
 pub mod OtherHarts
 pub mod Outputs
 pub mod TraceOfStream
-pub mod Stalls
+pub mod FrontLines

@@ -11,12 +11,13 @@ use Rattle.command_settings.specs.declared.wanted.Explore.{Explore}
 use Rattle.elf_loader.specs.Image.{Initial}
 use Rattle.elf_symbols.specs.Named.{Named}
 use Rattle.exploration_text.specs.Words.{end_text, exploration_text}
-use Rattle.explore_command.specs.Exploring.{IsAllowFile, IsExploreFault, IsExplorationTold, IsFoundIn, ExplorationHas, ExplorationRefusals, LeavesPart, exploration_fails}
+use Rattle.command_files.specs.Allowing.{IsAllowFile}
+use Rattle.explore_command.specs.Exploring.{IsExploreFault, IsExplorationTold, IsFoundIn, ExplorationHas, ExplorationRefusals, LeavesPart, exploration_fails}
 use Rattle.explore_command.specs.Judging.{HaveRefusals, IsJudged, judgement_of_lines}
 use Rattle.explore_command.specs.Keeping.{AreKept, HasName, IsInNamed, IsScriptOf, SparesOthers}
 use Rattle.explore_command.specs.Sought.{EndsJudged}
-use Rattle.explore_command.specs.declared.judging.Judgement.{Judgement}
-use Rattle.explore_command.specs.declared.judging.Judgement.TheVariants.{Allowed}
+use Rattle.command_files.specs.declared.allowing.Judgement.{Judgement}
+use Rattle.command_files.specs.declared.allowing.Judgement.TheVariants.{Allowed}
 use Rattle.explorer.specs.Ends.{outcome_of}
 use Rattle.explorer.specs.declared.exploration.Exploration.{Exploration}
 use Rattle.machine_types.specs.declared.config.Config.{Config}

@@ -6,7 +6,8 @@ use Rattle.command_files.specs.Contents.{Contents}
 use Rattle.command_files.specs.declared.fault.Fault.{Fault}
 use Rattle.command_files.specs.declared.fault.Fault.TheVariants.{BadAddress, BadEvent, BytesAfterTrace, CannotMake, CannotRead, CannotShow, CannotWrite, Check, Configuration, Event, Image, Mismatch, NoThread, NothingHappens, OtherImage, OutOfMemory, Text, TooManyRows}
 use Rattle.command_settings.specs.declared.wanted.Explore.{Explore}
-use Rattle.explore_command.specs.Exploring.{ComesBeforeScripts, IsExploreFault, IsFirstFault, IsFolderFault, IsNamedBy, IsReadingFault, LeavesPart}
+use Rattle.command_files.specs.Allowing.{IsNamedBy}
+use Rattle.explore_command.specs.Exploring.{ComesBeforeScripts, IsExploreFault, IsFirstFault, IsFolderFault, IsReadingFault, LeavesPart}
 use Rattle.text_fields.specs.Writing.{Begins}
 
 -- ---- files that are read

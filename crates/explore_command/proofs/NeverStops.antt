@@ -9,8 +9,8 @@ use Rattle.elf_loader.specs.Image.{Initial}
 use Rattle.explore_command.specs.Exploring.{exploration_fails, tells_failures}
 use Rattle.explore_command.specs.Judging.{IsJudged, are_allowed, failure_line, has_stopped, have_failure, incomplete_line, is_complete, is_stopped, line_if, stuck_line}
 use Rattle.explore_command.specs.Passing.{NoneStops, PassingIsSafe}
-use Rattle.explore_command.specs.declared.judging.Judgement.{Judgement}
-use Rattle.explore_command.specs.declared.judging.Judgement.TheVariants.{Allowed, NotAllowed}
+use Rattle.command_files.specs.declared.allowing.Judgement.{Judgement}
+use Rattle.command_files.specs.declared.allowing.Judgement.TheVariants.{Allowed, NotAllowed}
 use Rattle.exploration_text.specs.Words.{end_text}
 use Rattle.explorer.specs.Ends.{outcome_of}
 use Rattle.explorer.specs.Failures.{HasEachFailure, failures_of}

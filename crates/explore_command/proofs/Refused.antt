@@ -7,10 +7,10 @@ use Rattle.command_files.specs.Faults.{Name}
 use Rattle.command_files.specs.Contents.{Contents}
 use Rattle.command_files.specs.declared.fault.Fault.{Fault}
 use Rattle.allowed_outcomes.specs.Allowing.{is_allowed_line, without_number}
-use Rattle.explore_command.specs.Exploring.{IsAllowFile}
+use Rattle.command_files.specs.Allowing.{IsAllowFile}
 use Rattle.explore_command.specs.Judging.{HaveRefusals, IsToldBy, are_allowed, are_allowed_lines, judgement_of_lines, refusal_line, refusal_lines, refusals}
-use Rattle.explore_command.specs.declared.judging.Judgement.{Judgement}
-use Rattle.explore_command.specs.declared.judging.Judgement.TheVariants.{Allowed, NotAllowed}
+use Rattle.command_files.specs.declared.allowing.Judgement.{Judgement}
+use Rattle.command_files.specs.declared.allowing.Judgement.TheVariants.{Allowed, NotAllowed}
 use Rattle.text_fields.proofs.Written.{appends_none}
 use Rattle.text_fields.specs.Writing.{Begins, Writes}
 

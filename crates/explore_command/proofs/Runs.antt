@@ -10,8 +10,8 @@ use Rattle.exploration_text.specs.Sampling.{sampled_text}
 use Rattle.exploration_text.specs.Text.{harts_text}
 use Rattle.explore_command.specs.Judging.{HaveRefusals, IsJudged}
 use Rattle.explore_command.specs.Keeping.{AreKeptFrom, HasName, IsInNamed, IsOutcomeScript, SparesOthers}
-use Rattle.explore_command.specs.declared.judging.Judgement.{Judgement}
-use Rattle.explore_command.specs.declared.judging.Judgement.TheVariants.{Allowed}
+use Rattle.command_files.specs.declared.allowing.Judgement.{Judgement}
+use Rattle.command_files.specs.declared.allowing.Judgement.TheVariants.{Allowed}
 use Rattle.explorer.specs.Ends.{outcome_of}
 use Rattle.machine_types.specs.declared.config.Config.{Config}
 use Rattle.explore_command.specs.Sampling.{AreRuns, IsSampleTold, SampleHas, SampleRefusals, runs_fail}

@@ -14,11 +14,11 @@ use Rattle.command_settings.specs.declared.wanted.Explore.{Explore}
 use Rattle.elf_loader.specs.Image.{Initial}
 use Rattle.exploration_text.specs.declared.wording.WordName.{WordName}
 use Rattle.exploration_text.specs.Words.{end_text}
-use Rattle.explore_command.specs.Exploring.{IsAllowFile}
+use Rattle.command_files.specs.Allowing.{IsAllowFile}
 use Rattle.explore_command.specs.Judging.{IsToldBy, judgement_of_lines, refusals}
 use Rattle.explore_command.specs.Keeping.{HasName, IsInNamed, SparesOthers}
-use Rattle.explore_command.specs.declared.judging.Judgement.{Judgement}
-use Rattle.explore_command.specs.declared.judging.Judgement.TheVariants.{Allowed}
+use Rattle.command_files.specs.declared.allowing.Judgement.{Judgement}
+use Rattle.command_files.specs.declared.allowing.Judgement.TheVariants.{Allowed}
 use Rattle.machine_types.specs.declared.config.Config.{Config}
 use Rattle.explore_command.proofs.Shown.{judged_of, told_of}
 use Rattle.explore_command.specs.Asking.{HasProgram}

@@ -13,14 +13,15 @@ use Rattle.elf_symbols.specs.Named.{Named}
 use Rattle.exploration_text.specs.declared.wording.WordName.{WordName}
 use Rattle.exploration_text.specs.Words.{end_text, exploration_text}
 use Rattle.explore_command.proofs.Explored.{judged}
-use Rattle.explore_command.specs.Exploring.{IsAllowFile, IsExploreFault, IsFoundIn, exploration_fails}
+use Rattle.command_files.specs.Allowing.{IsAllowFile}
+use Rattle.explore_command.specs.Exploring.{IsExploreFault, IsFoundIn, exploration_fails}
 use Rattle.explore_command.proofs.Refused.{refusals_in}
 use Rattle.explore_command.proofs.Sought.{ends_judged}
 use Rattle.explore_command.specs.Sought.{EndsBy}
 use Rattle.explore_command.specs.Judging.{HaveRefusals, IsJudged, judgement_of_lines, refusals}
 use Rattle.explore_command.specs.Keeping.{AreKept, HasName, IsInNamed, IsScriptOf, SparesOthers}
-use Rattle.explore_command.specs.declared.judging.Judgement.{Judgement}
-use Rattle.explore_command.specs.declared.judging.Judgement.TheVariants.{Allowed}
+use Rattle.command_files.specs.declared.allowing.Judgement.{Judgement}
+use Rattle.command_files.specs.declared.allowing.Judgement.TheVariants.{Allowed}
 use Rattle.explorer.specs.declared.exploration.Exploration.{Exploration}
 use Rattle.flat_exploration.specs.Outcomes.{Outcome}
 use Rattle.machine_types.specs.declared.config.Config.{Config}

@@ -6,8 +6,8 @@ use Rattle.exploration_text.specs.Words.{end_text}
 use Rattle.exploration_text.specs.declared.wording.WordName.{WordName}
 use Rattle.explore_command.specs.Judging.{are_allowed, are_allowed_lines, judgement_of_lines}
 use Rattle.explore_command.specs.Sought.{EndsBy, EndsJudged, IsRefused}
-use Rattle.explore_command.specs.declared.judging.Judgement.{Judgement}
-use Rattle.explore_command.specs.declared.judging.Judgement.TheVariants.{Allowed, NotAllowed}
+use Rattle.command_files.specs.declared.allowing.Judgement.{Judgement}
+use Rattle.command_files.specs.declared.allowing.Judgement.TheVariants.{Allowed, NotAllowed}
 use Rattle.explorer.specs.Ends.{outcome_of, outcomes_of}
 use Rattle.explorer.specs.FlatExplorationOutcomes.{Outcome}
 use Rattle.explorer.specs.Sought.{TellsSought}

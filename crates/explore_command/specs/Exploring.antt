@@ -4,7 +4,8 @@ use Rattle.std.specs.Io.KnownBytes.{Appends}
 use Rattle.std.specs.List.Sorted.{IsStrictlySortedBy}
 use Rattle.std.specs.Ordering.{on}
 use Rattle.command_files.specs.Faults.{IsImageFault, IsNoImage, IsReadFault, Name}
-use Rattle.command_files.specs.Contents.{Contents, HoldsBytes}
+use Rattle.command_files.specs.Allowing.{IsNamedBy}
+use Rattle.command_files.specs.Contents.{Contents}
 use Rattle.command_files.specs.Sizes.{IsInside, IsOutside, config_named}
 use Rattle.command_files.specs.declared.fault.Fault.{Fault}
 use Rattle.command_files.specs.declared.fault.Fault.TheVariants.{CannotMake, CannotRead, CannotWrite, Configuration, Image, OutOfMemory}
@@ -15,8 +16,8 @@ use Rattle.exploration_text.specs.Words.{end_text, exploration_text}
 use Rattle.explore_command.specs.Judging.{HaveRefusals, IsJudged, fail_lines, have_failure, is_complete}
 use Rattle.explore_command.specs.Keeping.{AreKept, HasName, IsInNamed, IsScriptOf, SparesOthers}
 use Rattle.explore_command.specs.Sought.{EndsJudged}
-use Rattle.explore_command.specs.declared.judging.Judgement.{Judgement}
-use Rattle.explore_command.specs.declared.judging.Judgement.TheVariants.{Allowed}
+use Rattle.command_files.specs.declared.allowing.Judgement.{Judgement}
+use Rattle.command_files.specs.declared.allowing.Judgement.TheVariants.{Allowed}
 use Rattle.explorer.specs.Ends.{IsRealIn, outcome_of, outcomes_of}
 use Rattle.explorer.specs.Failures.{AreOnce, HasEachFailure, IsRealFailure, failures_of}
 use Rattle.explorer.specs.Outcomes.{CanAlwaysEnd, HasEachEnd}
@@ -95,21 +96,7 @@ pub record ExplorationRefusals (held : Contents) (wanted : Explore) (old new : O
   pub printed : Appends old new (exploration_text [] symbols exploration)
   pub refusals : HaveRefusals held wanted.allow (map (λ f. end_text [] (outcome_of f)) exploration.outcomes.items) (exploration_fails wanted.fail_on exploration) P
 
--- ---- what is allowed
-
--- these are the bytes of the file that was named, if one was
-abbrev pub IsAllowFile : Contents → Option Name → Option (List ℕ) → Type 0
-IsAllowFile held None None = Unit {0}
-IsAllowFile held None (Some text) = ⊥
-IsAllowFile held (Some file) None = ⊥
-IsAllowFile held (Some file) (Some text) = HoldsBytes held file.now text
-
 -- ---- faults
-
--- a name was given, and the fault is of that file
-abbrev pub IsNamedBy : Option Name → (Name → Fault → Type 0) → Fault → Type 0
-IsNamedBy None IsOf fault = ⊥
-IsNamedBy (Some file) IsOf fault = IsOf file fault
 
 -- the file that says what is allowed, or the image, can't be read or used
 abbrev pub IsReadingFault : Contents → Explore → Fault → Type 0

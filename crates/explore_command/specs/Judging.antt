@@ -5,8 +5,8 @@ use Rattle.command_files.specs.Faults.{Name}
 use Rattle.command_files.specs.Contents.{Contents, HoldsBytes}
 use Rattle.command_settings.specs.Settings.{lists}
 use Rattle.allowed_outcomes.specs.Allowing.{is_allowed_line, without_number}
-use Rattle.explore_command.specs.declared.judging.Judgement.{Judgement}
-use Rattle.explore_command.specs.declared.judging.Judgement.TheVariants.{Allowed, NotAllowed}
+use Rattle.command_files.specs.declared.allowing.Judgement.{Judgement}
+use Rattle.command_files.specs.declared.allowing.Judgement.TheVariants.{Allowed, NotAllowed}
 use Rattle.flat_model.specs.Shown.{HartEnd}
 use Rattle.hart.specs.declared.status.Status.{Status}
 use Rattle.hart.specs.declared.status.Status.TheVariants.{Exited, Running, Stopped}

@@ -8,7 +8,7 @@ use Rattle.command_settings.specs.declared.wanted.Explore.{Explore}
 use Rattle.elf_loader.specs.Image.{Initial}
 use Rattle.explore_command.specs.Exploring.{IsExplorationTold}
 use Rattle.explore_command.specs.Judging.{has_stopped}
-use Rattle.explore_command.specs.declared.judging.Judgement.TheVariants.{Allowed}
+use Rattle.command_files.specs.declared.allowing.Judgement.TheVariants.{Allowed}
 use Rattle.explorer.specs.Outcomes.{CanAlwaysEnd}
 use Rattle.flat_model.specs.Shown.{results}
 use Rattle.machine_types.specs.declared.config.Config.{Config}

@@ -19,8 +19,8 @@ use Rattle.exploration_text.specs.Words.{end_text}
 use Rattle.explore_command.specs.Exploring.{IsExploreFault}
 use Rattle.explore_command.specs.Judging.{HaveRefusals, IsJudged, IsToldBy, fail_lines, have_failure, is_complete}
 use Rattle.explore_command.specs.Keeping.{HasName, IsInNamed, SparesOthers}
-use Rattle.explore_command.specs.declared.judging.Judgement.{Judgement}
-use Rattle.explore_command.specs.declared.judging.Judgement.TheVariants.{Allowed}
+use Rattle.command_files.specs.declared.allowing.Judgement.{Judgement}
+use Rattle.command_files.specs.declared.allowing.Judgement.TheVariants.{Allowed}
 use Rattle.flat_model.specs.Flat.{Flat}
 use Rattle.machine_types.specs.declared.config.Config.{Config}
 use Rattle.explore_command.specs.Asking.{HasProgram, HasUnshown}

@@ -15,8 +15,8 @@ use Rattle.explore_command.specs.Exploring.{IsExploreFault, IsFoundIn, explorati
 use Rattle.explore_command.specs.Judging.{HaveRefusals, IsJudged}
 use Rattle.explore_command.specs.Keeping.{AreKept, HasName, IsInNamed, IsScriptOf, SparesOthers}
 use Rattle.explore_command.specs.Sought.{EndsJudged}
-use Rattle.explore_command.specs.declared.judging.Judgement.{Judgement}
-use Rattle.explore_command.specs.declared.judging.Judgement.TheVariants.{Allowed}
+use Rattle.command_files.specs.declared.allowing.Judgement.{Judgement}
+use Rattle.command_files.specs.declared.allowing.Judgement.TheVariants.{Allowed}
 use Rattle.explore_command.specs.Asking.{HasProgram, HasUnshown}
 use Rattle.explore_command.specs.Targets.{names_of}
 use Rattle.state_search.specs.declared.findings.Extent.TheVariants as extent

@@ -5,8 +5,8 @@ use Rattle.allowed_outcomes.specs.Known.{allows_line}
 use Rattle.allowed_outcomes.specs.declared.allowing.Allowed.{Allowed}
 use Rattle.exploration_text.specs.Words.{end_text}
 use Rattle.exploration_text.specs.declared.wording.WordName.{WordName}
-use Rattle.explore_command.specs.declared.judging.Judgement.{Judgement}
-use Rattle.explore_command.specs.declared.judging.Judgement.TheVariants.{NotAllowed}
+use Rattle.command_files.specs.declared.allowing.Judgement.{Judgement}
+use Rattle.command_files.specs.declared.allowing.Judgement.TheVariants.{NotAllowed}
 use Rattle.explorer.specs.Ends.{outcomes_of}
 use Rattle.explorer.specs.FlatExplorationOutcomes.{Outcome}
 use Rattle.explorer.specs.declared.exploration.Exploration.{Exploration}

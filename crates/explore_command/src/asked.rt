@@ -1,17 +1,16 @@
 //! What a search is asked of.
 
 ghost use Rattle.std.specs.Prelude.{◌≡◌, Err, IfErr, IfOk, option_map};
-ghost use Rattle.command_files.specs.Faults.{IsReadFault};
+ghost use Rattle.command_files.specs.Allowing.{IsAllowFile};
 ghost use Rattle.command_files.specs.Files.{HoldsImage};
 ghost use Rattle.command_files.specs.Sizes.{IsInside, IsOutside, config_named};
 ghost use Rattle.elf_loader.specs.Size.{IsMemoryKib};
-ghost use Rattle.explore_command.specs.Exploring.{IsAllowFile, IsFirstFault, IsNamedBy};
+ghost use Rattle.explore_command.specs.Exploring.{IsFirstFault};
 ghost use Rattle.explore_command.specs.Keeping.{HasName};
 ghost use Rattle.script_commands.specs.Named.{HoldsNamedImage};
 
 use crate::keeping::check_folder;
-use crate::no_outcomes::remark_no_outcomes;
-use command_files::{Fault, Files, contents, named_config, out_of_limits};
+use command_files::{Fault, Files, allow_file, named_config, out_of_limits};
 use command_settings::Explore;
 use elf_loader::Image;
 use elf_symbols::Symbols;
@@ -78,22 +77,4 @@ impl Asked {
             allowed,
         })
     }
-}
-
-/// The bytes of the file that was named, if one was. Which lines are no outcome is remarked.
-pub fn allow_file<'a, F: Files>(
-    alloc: Global,
-    files: &mut F,
-    allow: Option<&'a str>,
-) -> Result<Option<Vec<u8>>, Fault<'a>>
-    ensures read { IfOk result (λ text. IsAllowFile (F.held files.old) allow.entry (option_map (λ bytes. bytes.items) text)) }
-    ensures told { IfErr result (IsNamedBy allow.entry IsReadFault) }
-    ensures stays { F.held files.new ≡ F.held files.old }
-{
-    let Some(file) = allow else {
-        return Ok(None);
-    };
-    let bytes = contents(alloc, files, file)?;
-    remark_no_outcomes(alloc, files, file, &bytes);
-    Ok(Some(bytes))
 }

@@ -6,19 +6,11 @@ ghost use Rattle.explore_command.specs.Judging.{IsToldBy, fail_lines, have_failu
 use crate::failing::fails_of;
 use crate::findings::Findings;
 use allowed_outcomes::{Allowed, without_number};
-use command_files::Fault;
+use command_files::{Fault, Judgement};
 use command_settings::Explore;
 use std::alloc::{AllocError, Global};
 use std::io::Write;
 use text_fields::put;
-
-/// Whether each outcome is one that is allowed, and the search came to nothing else that it may not come to.
-#[derive(Clone, Copy, Debug, PartialEq, Eq)]
-pub enum Judgement {
-    /// Each is, or no file says which ones are; and it didn't.
-    Allowed,
-    NotAllowed,
-}
 
 /// Whether what was found is allowed by a text, if there is one, and is nothing that the search may not come to. Where it
 /// is, but memory ended, there may be more: that is an error. Of outcomes that aren't the numbers are told, and then what

@@ -10,16 +10,13 @@ mod findings;
 mod judging;
 mod keeping;
 mod laws;
-mod no_outcomes;
 mod sample;
 mod seeking;
 mod show;
 mod sparing;
 
 pub use architecture::architecture_files;
-pub use asked::allow_file;
 pub use exploring::explore_files;
-pub use judging::Judgement;
 pub use laws::passing_is_safe;
 pub use sample::sample_files;
 pub use show::show_files;

@@ -1,5 +1,5 @@
 -- What was asked stays so whatever searches are added.
-use Rattle.std.proofs.Common.{ℕ, ◌≡◌, ◌∙◌, ◌==◌, ◌||◌, ◌++◌, ◌∷◌, [], All, Bool, List, None, Option, Some, ap, false, if◌then◌else◌, inl, inr, is_some, Err, Ok, OnOk, Result, option_map, refl, subst, sym, true}
+use Rattle.std.proofs.Common.{ℕ, ◌≡◌, ◌⊎◌, ◌∙◌, ◌==◌, ◌||◌, ◌++◌, ◌∷◌, [], All, Bool, List, None, Option, Some, ap, false, if◌then◌else◌, inl, inr, is_some, Err, Ok, OnOk, Result, option_map, refl, subst, sym, true}
 use Rattle.std.specs.List.{list_any}
 use Rattle.std.proofs.lemmas.List.{append-nil, append_assoc}
 use Rattle.std.proofs.lemmas.List.Elements.{All-head, All-tail, All-weaker}
@@ -25,6 +25,7 @@ use Rattle.fence_audit.specs.declared.answers.Answer.TheVariants.{Bounded, Fewer
 use Rattle.fence_audit.specs.declared.searches.Search.{Search}
 use Rattle.image_orderings.specs.Forms.{weaker_words}
 use Rattle.image_orderings.specs.Programs.{patches_with, patches_without}
+use Rattle.image_orderings.specs.Replaced.{addresses_of}
 use Rattle.image_orderings.specs.declared.orderings.ImageOrdering.{ImageOrdering}
 use Rattle.image_orderings.specs.declared.orderings.Part.{Part}
 use Rattle.image_orderings.specs.declared.orderings.Part.TheVariants.{Acquire, Fence, Release}
@@ -136,8 +137,22 @@ each_reverted_stays old new patches own grown all =
     All-weaker (IsReverted old patches) (IsReverted new patches) (λ p is. asked_stays old new (patches_with p.address p.word patches) grown is) own all
 
 pub enough_stays : (own : List Patch) (old new : List Search) (patches : List Patch) → Grows old new → IsEnough own old patches → IsEnough own new patches
-enough_stays own old new patches grown (inl is) = inl is
-enough_stays own old new patches grown (inr is) = inr (answer_stays old new patches Same grown is)
+enough_stays own old new patches grown is = record { outcomes = go is.outcomes; places = is.places }
+  where
+    go : (patches ≡ own) ⊎ (answer_in old patches ≡ Some Same) → (patches ≡ own) ⊎ (answer_in new patches ≡ Some Same)
+    go (inl same) = inl same
+    go (inr asked) = inr (answer_stays old new patches Same grown asked)
+
+-- the first program, and one that was found to be
+pub enough_first : (own : List Patch) (searches : List Search) (patches : List Patch) → patches ≡ own → IsEnough own searches patches
+enough_first own searches patches is = record { outcomes = inl is; places = ap addresses_of is }
+
+pub enough_found : (own : List Patch) (old new : List Search) (last patches asked : List Patch) (answer : Answer) → asked ≡ patches → answer_in new asked ≡ Some answer → answer ≡ Same
+    → addresses_of patches ≡ addresses_of last → IsEnough own old last → IsEnough own new patches
+enough_found own old new last patches asked answer are told same places was = record {
+  outcomes = inr (subst (λ (ps : List Patch). answer_in new ps ≡ Some Same) are (told ∙ ap Some same));
+  places = places ∙ was.places;
+}
 
 pub each_same_stays : (old new : List Search) (patches : List Patch) (address : ℕ) (words : List ℕ) → Grows old new → All (IsSame old patches address) words → All (IsSame new patches address) words
 each_same_stays old new patches address words grown all = All-weaker (IsSame old patches address) (IsSame new patches address) (λ w is. answer_stays old new (patches_with address w patches) Same grown is) words all
@@ -200,7 +215,7 @@ pub not_added : (asking : Asking) (own most last : List Patch) (searches : List 
 not_added asking own most last searches answer b asked is no as_it_was searched = record {
   searched = searched;
   asked = answered searches most answer asked;
-  enough = inl as_it_was;
+  enough = enough_first most searches last as_it_was;
   each = λ same. absurd (not_enough searches most answer b asked is no same);
 }
 

@@ -13,6 +13,7 @@ use Rattle.fence_audit.specs.declared.searches.Search.{Search}
 use Rattle.image_orderings.specs.Forms.{is_weaker, weaker_words}
 use Rattle.image_orderings.specs.Orderings.{orderings_of}
 use Rattle.image_orderings.specs.Programs.{own_patches, patches_with, patches_without}
+use Rattle.image_orderings.specs.Replaced.{addresses_of}
 use Rattle.image_orderings.specs.declared.orderings.ImageOrdering.{ImageOrdering}
 use Rattle.image_orderings.specs.declared.orderings.Part.{Part}
 use Rattle.image_orderings.specs.declared.orderings.Part.TheVariants.{Acquire, Fence, Release}
@@ -54,9 +55,10 @@ AreWeighed image searches patches o = (answer_in searches (patches_without o pat
 
 -- ---- all together
 
--- it is the program as it is, or one of the same outcomes
-abbrev pub IsEnough : (own : List Patch) → List Search → List Patch → Type 0
-IsEnough own searches patches = (patches ≡ own) ⊎ (answer_in searches patches ≡ Some Same)
+-- it is the first program, or one that a search found to be enough, with words at the same addresses
+pub record IsEnough (own : List Patch) (searches : List Search) (patches : List Patch) : Type 0 where
+  pub outcomes : (patches ≡ own) ⊎ (answer_in searches patches ≡ Some Same)
+  pub places : addresses_of patches ≡ addresses_of own
 
 -- each search is what it says; the program without each ordering was searched, of each FENCE that is needed with each weaker one, and the last program, without each of its orderings
 pub record IsReduction (asking : Asking) (orderings : List ImageOrdering) (own : List Patch) (searches : List Search) (last : List Patch) : Type 0 where

@@ -2,19 +2,20 @@
 use Rattle.std.specs.Prelude.{All, ◌<◌, ◌≡◌, ◌&&◌, ◌==◌, ◌++◌, ℕ, [], ◌∷◌, Bool, List, None, Option, Some, if◌then◌else◌, is_some, option_map, true}
 use Rattle.std.specs.Cmp.Lexicographic.{pointwise}
 use Rattle.architecture_outcomes.specs.declared.architecture.Architecture.{Architecture}
-use Rattle.elf_loader.specs.Image.{HasWord, Initial}
+use Rattle.elf_loader.specs.Image.{Initial}
 use Rattle.fence_audit.specs.Answers.{IsSearchOf, answer_of}
 use Rattle.fence_audit.specs.declared.answers.Answer.{Answer}
 use Rattle.architecture_outcomes.specs.Words.{CanShowEach}
 use Rattle.fence_audit.specs.declared.searches.Asking.{Asking}
 use Rattle.fence_audit.specs.declared.searches.Question.{Question}
 use Rattle.fence_audit.specs.declared.searches.Search.{Search}
-use Rattle.image_orderings.specs.Replaced.{patched}
+use Rattle.image_orderings.specs.Replaced.{IsPatchOf, patched}
 use Rattle.image_orderings.specs.declared.replacing.Patch.{Patch}
 use Rattle.machine_types.specs.declared.config.Config.{Config}
 
--- it is of the image with these words replaced, and answers by what it found
+-- it is of the image with these words replaced, each by one that differs from it at most in what it orders, and answers by what it found
 pub record IsSearched (image : Initial) (config : Config) (addresses : List ℕ) (window limit : ℕ) (answers : Architecture → Answer) (search : Search) : Type 0 where
+  pub patches : All (IsPatchOf image) search.patches.items
   pub found : IsSearchOf (patched image search.patches.items) config addresses window limit search.found
   pub answer : search.answer ≡ answers search.found
 
@@ -48,9 +49,9 @@ pub record IsReady (question : Question) : Type 0 where
   pub room : 0 < question.limit
   pub words : CanShowEach question.image.now question.addresses.now
 
--- words lie where they are replaced
-abbrev pub AreInside : Question → List Patch → Type 0
-AreInside question patches = All (λ (p : Patch). HasWord question.image.now p.address) patches
+-- words lie where they are replaced, and differ from the program's own at most in what they order
+abbrev pub ArePatchesOf : Question → List Patch → Type 0
+ArePatchesOf question patches = All (IsPatchOf question.image.now) patches
 
 abbrev pub IsSearchedBy : Asking → Search → Type 0
 IsSearchedBy asking search =

@@ -2,7 +2,8 @@
 ghost use Rattle.std.specs.Prelude.{All, IfOk, OnOk};
 ghost use Rattle.fence_audit.specs.Adding.{IsAddition, IsReverted};
 ghost use Rattle.fence_audit.specs.Auditing.{IsEnough};
-ghost use Rattle.fence_audit.specs.Searches.{AreInside, AreSearched, Grows, IsReady};
+ghost use Rattle.fence_audit.specs.Searches.{ArePatchesOf, AreSearched, Grows, IsReady};
+ghost use Rattle.image_orderings.specs.Replaced.{IsPatchOf};
 
 use crate::answers::is_enough;
 use crate::searches::{Asking, Search};
@@ -27,7 +28,8 @@ impl Asking<'_> {
         watch: &W,
     ) -> Result<Added, AllocError>
         requires ready { IsReady self.now.question }
-        requires inside { AreInside self.now.question most.now }
+        requires own { ArePatchesOf self.now.question own.now }
+        requires of_image { ArePatchesOf self.now.question most.now }
         ensures { IfOk result (λ r. IsAddition self.now own.now most.now r.searches.items r.last.items) }
     {
         let mut searches = Vec::new(self.alloc);
@@ -50,7 +52,8 @@ impl Asking<'_> {
         watch: &W,
     ) -> Result<Vec<Patch>, AllocError>
         requires ready { IsReady self.now.question }
-        requires inside { AreInside self.now.question last.items }
+        requires own { ArePatchesOf self.now.question own.now }
+        requires of_image { ArePatchesOf self.now.question last.items }
         requires enough { IsEnough most.now searches.old.items last.items }
         ensures enough { IfOk result (λ made. IsEnough most.now searches.new.items made.items) }
         ensures each { IfOk result (λ made. All (IsReverted searches.new.items made.items) own.now) }
@@ -73,10 +76,11 @@ impl Asking<'_> {
         watch: &W,
     ) -> Result<Vec<Patch>, AllocError>
         requires ready { IsReady self.now.question }
-        requires inside { AreInside self.now.question last.items }
+        requires own { ArePatchesOf self.now.question own.now }
+        requires of_image { ArePatchesOf self.now.question last.items }
         requires enough { IsEnough most.now searches.old.items last.items }
         ensures enough { IfOk result (λ made. IsEnough most.now searches.new.items made.items) }
-        ensures inside { IfOk result (λ made. AreInside self.now.question made.items) }
+        ensures of_image { IfOk result (λ made. ArePatchesOf self.now.question made.items) }
         ensures grown { OnOk result (Grows searches.old.items searches.new.items) }
         ensures searched { OnOk result (AreSearched self.now searches.old.items → AreSearched self.now searches.new.items) }
     {
@@ -98,10 +102,10 @@ impl Asking<'_> {
         watch: &W,
     ) -> Result<Vec<Patch>, AllocError>
         requires ready { IsReady self.now.question }
-        requires inside { AreInside self.now.question last.items }
+        requires of_image { ArePatchesOf self.now.question last.items }
         requires enough { IsEnough most.now searches.old.items last.items }
         ensures enough { IfOk result (λ made. IsEnough most.now searches.new.items made.items) }
-        ensures inside { IfOk result (λ made. AreInside self.now.question made.items) }
+        ensures of_image { IfOk result (λ made. ArePatchesOf self.now.question made.items) }
         ensures grown { OnOk result (Grows searches.old.items searches.new.items) }
         ensures searched { OnOk result (AreSearched self.now searches.old.items → AreSearched self.now searches.new.items) }
     {
@@ -123,10 +127,10 @@ impl Asking<'_> {
         watch: &W,
     ) -> Result<Vec<Patch>, AllocError>
         requires ready { IsReady self.now.question }
-        requires inside { AreInside self.now.question last.items }
+        requires of_image { ArePatchesOf self.now.question last.items }
         requires enough { IsEnough most.now searches.old.items last.items }
         ensures enough { IfOk result (λ made. IsEnough most.now searches.new.items made.items) }
-        ensures inside { IfOk result (λ made. AreInside self.now.question made.items) }
+        ensures of_image { IfOk result (λ made. ArePatchesOf self.now.question made.items) }
         ensures grown { OnOk result (Grows searches.old.items searches.new.items) }
         ensures searched { OnOk result (AreSearched self.now searches.old.items → AreSearched self.now searches.new.items) }
     {
@@ -149,7 +153,8 @@ impl Asking<'_> {
         watch: &W,
     ) -> Result<(), AllocError>
         requires ready { IsReady self.now.question }
-        requires inside { AreInside self.now.question patches.now }
+        requires own { ArePatchesOf self.now.question own.now }
+        requires of_image { ArePatchesOf self.now.question patches.now }
         ensures asked { OnOk result (All (IsReverted searches.new.items patches.now) own.now) }
         ensures grown { OnOk result (Grows searches.old.items searches.new.items) }
         ensures searched { OnOk result (AreSearched self.now searches.old.items → AreSearched self.now searches.new.items) }
@@ -169,7 +174,8 @@ impl Asking<'_> {
         watch: &W,
     ) -> Result<(), AllocError>
         requires ready { IsReady self.now.question }
-        requires inside { AreInside self.now.question patches.now }
+        requires own { IsPatchOf self.now.question.image.now own }
+        requires of_image { ArePatchesOf self.now.question patches.now }
         ensures asked { OnOk result (IsReverted searches.new.items patches.now own) }
         ensures grown { OnOk result (Grows searches.old.items searches.new.items) }
         ensures searched { OnOk result (AreSearched self.now searches.old.items → AreSearched self.now searches.new.items) }

@@ -3,7 +3,7 @@ ghost use Rattle.std.specs.Prelude.{◌≡◌, All, IfOk, OnOk};
 ghost use Rattle.elf_loader.specs.Image.{HasWord};
 ghost use Rattle.fence_audit.specs.Answers.{answer_of};
 ghost use Rattle.fence_audit.specs.Auditing.{ArePartsOf, IsAudit, IsLeftOut, IsReduction, audit_with};
-ghost use Rattle.fence_audit.specs.Searches.{AreInside, AreSearched, Grows, IsReady};
+ghost use Rattle.fence_audit.specs.Searches.{ArePatchesOf, AreSearched, Grows, IsReady};
 
 use crate::answers::{Standard, is_whole};
 use crate::searches::{Asking, Question, Search, explore};
@@ -126,7 +126,7 @@ impl Asking<'_> {
         watch: &W,
     ) -> Result<Reduced, AllocError>
         requires ready { IsReady self.now.question }
-        requires inside { AreInside self.now.question own.now }
+        requires of_image { ArePatchesOf self.now.question own.now }
         requires places { All (λ o. HasWord self.now.question.image.now o.address) orderings.now }
         ensures { IfOk result (λ r. IsReduction self.now orderings.now own.now r.searches.items r.last.items) }
     {
@@ -147,7 +147,7 @@ impl Asking<'_> {
         watch: &W,
     ) -> Result<(), AllocError>
         requires ready { IsReady self.now.question }
-        requires inside { AreInside self.now.question patches.now }
+        requires of_image { ArePatchesOf self.now.question patches.now }
         ensures asked { OnOk result (All (IsLeftOut searches.new.items patches.now) orderings.now) }
         ensures grown { OnOk result (Grows searches.old.items searches.new.items) }
         ensures searched { OnOk result (AreSearched self.now searches.old.items → AreSearched self.now searches.new.items) }
@@ -167,7 +167,7 @@ impl Asking<'_> {
         watch: &W,
     ) -> Result<(), AllocError>
         requires ready { IsReady self.now.question }
-        requires inside { AreInside self.now.question patches.now }
+        requires of_image { ArePatchesOf self.now.question patches.now }
         ensures asked { OnOk result (IsLeftOut searches.new.items patches.now ordering) }
         ensures grown { OnOk result (Grows searches.old.items searches.new.items) }
         ensures searched { OnOk result (AreSearched self.now searches.old.items → AreSearched self.now searches.new.items) }

@@ -1,7 +1,9 @@
 //! A program with fewer orderings and the same outcomes.
-ghost use Rattle.std.specs.Prelude.{◌≡◌, IfOk, OnOk};
+ghost use Rattle.std.specs.Prelude.{◌≡◌, All, IfOk, OnOk};
+ghost use Rattle.elf_loader.specs.Image.{word_at};
 ghost use Rattle.fence_audit.specs.Auditing.{IsEnough};
-ghost use Rattle.fence_audit.specs.Searches.{AreInside, AreSearched, Grows, IsReady};
+ghost use Rattle.fence_audit.specs.Searches.{ArePatchesOf, AreSearched, Grows, IsReady};
+ghost use Rattle.image_orderings.specs.Forms.{IsVariant};
 
 use crate::answers::Answer;
 use crate::searches::{Asking, Search};
@@ -22,9 +24,9 @@ impl Asking<'_> {
         watch: &W,
     ) -> Result<Vec<Patch>, AllocError>
         requires ready { IsReady self.now.question }
-        requires inside { AreInside self.now.question own.now }
+        requires of_image { ArePatchesOf self.now.question own.now }
         ensures enough { IfOk result (λ last. IsEnough own.now searches.new.items last.items) }
-        ensures inside { IfOk result (λ last. AreInside self.now.question last.items) }
+        ensures of_image { IfOk result (λ last. ArePatchesOf self.now.question last.items) }
         ensures grown { OnOk result (Grows searches.old.items searches.new.items) }
         ensures searched { OnOk result (AreSearched self.now searches.old.items → AreSearched self.now searches.new.items) }
     {
@@ -34,6 +36,7 @@ impl Asking<'_> {
         }
         self.weakened(searches, orderings, own, last, watch)
     }
+
     /// The program without an ordering, where the outcomes stay the same, or else as it was.
     fn reduced_by<W: Watch>(
         &self,
@@ -44,10 +47,10 @@ impl Asking<'_> {
         watch: &W,
     ) -> Result<Vec<Patch>, AllocError>
         requires ready { IsReady self.now.question }
-        requires inside { AreInside self.now.question last.items }
+        requires of_image { ArePatchesOf self.now.question last.items }
         requires enough { IsEnough own.now searches.old.items last.items }
         ensures enough { IfOk result (λ made. IsEnough own.now searches.new.items made.items) }
-        ensures inside { IfOk result (λ made. AreInside self.now.question made.items) }
+        ensures of_image { IfOk result (λ made. ArePatchesOf self.now.question made.items) }
         ensures grown { OnOk result (Grows searches.old.items searches.new.items) }
         ensures searched { OnOk result (AreSearched self.now searches.old.items → AreSearched self.now searches.new.items) }
     {
@@ -68,10 +71,10 @@ impl Asking<'_> {
         watch: &W,
     ) -> Result<Vec<Patch>, AllocError>
         requires ready { IsReady self.now.question }
-        requires inside { AreInside self.now.question last.items }
+        requires of_image { ArePatchesOf self.now.question last.items }
         requires enough { IsEnough own.now searches.old.items last.items }
         ensures enough { IfOk result (λ made. IsEnough own.now searches.new.items made.items) }
-        ensures inside { IfOk result (λ made. AreInside self.now.question made.items) }
+        ensures of_image { IfOk result (λ made. ArePatchesOf self.now.question made.items) }
         ensures grown { OnOk result (Grows searches.old.items searches.new.items) }
         ensures searched { OnOk result (AreSearched self.now searches.old.items → AreSearched self.now searches.new.items) }
     {
@@ -95,10 +98,10 @@ impl Asking<'_> {
         watch: &W,
     ) -> Result<Vec<Patch>, AllocError>
         requires ready { IsReady self.now.question }
-        requires inside { AreInside self.now.question last.items }
+        requires of_image { ArePatchesOf self.now.question last.items }
         requires enough { IsEnough own.now searches.old.items last.items }
         ensures enough { IfOk result (λ made. IsEnough own.now searches.new.items made.items) }
-        ensures inside { IfOk result (λ made. AreInside self.now.question made.items) }
+        ensures of_image { IfOk result (λ made. ArePatchesOf self.now.question made.items) }
         ensures grown { OnOk result (Grows searches.old.items searches.new.items) }
         ensures searched { OnOk result (AreSearched self.now searches.old.items → AreSearched self.now searches.new.items) }
     {
@@ -120,10 +123,11 @@ impl Asking<'_> {
         watch: &W,
     ) -> Result<Vec<Patch>, AllocError>
         requires ready { IsReady self.now.question }
-        requires inside { AreInside self.now.question last.items }
+        requires variants { All (IsVariant (word_at self.now.question.image.now address)) words.now }
+        requires of_image { ArePatchesOf self.now.question last.items }
         requires enough { IsEnough own.now searches.old.items last.items }
         ensures enough { IfOk result (λ made. IsEnough own.now searches.new.items made.items) }
-        ensures inside { IfOk result (λ made. AreInside self.now.question made.items) }
+        ensures of_image { IfOk result (λ made. ArePatchesOf self.now.question made.items) }
         ensures grown { OnOk result (Grows searches.old.items searches.new.items) }
         ensures searched { OnOk result (AreSearched self.now searches.old.items → AreSearched self.now searches.new.items) }
     {

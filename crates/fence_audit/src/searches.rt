@@ -1,7 +1,7 @@
 //! The searches of an audit, none of which is made twice.
 ghost use Rattle.std.specs.Prelude.{◌≡◌, IfOk, OnOk, Some, option_map};
 ghost use Rattle.fence_audit.specs.Answers.{IsSearchOf};
-ghost use Rattle.fence_audit.specs.Searches.{AreInside, AreSearched, Grows, IsReady, IsSearchedBy, answer_in, is_of, search_in};
+ghost use Rattle.fence_audit.specs.Searches.{ArePatchesOf, AreSearched, Grows, IsReady, IsSearchedBy, answer_in, is_of, search_in};
 ghost use Rattle.image_orderings.specs.Replaced.{patched};
 
 use crate::answers::{Answer, Standard, answer_of};
@@ -74,7 +74,7 @@ pub(crate) fn explore<W: Watch>(
     watch: &W,
 ) -> Result<Architecture, AllocError>
     requires ready { IsReady question }
-    requires inside { AreInside question patches.now }
+    requires of_image { ArePatchesOf question patches.now }
     ensures { IfOk result (IsSearchOf (patched question.entry.image.now patches.now) question.entry.config question.entry.addresses.now question.entry.window question.entry.limit) }
 {
     let image = patched(alloc, question.image, patches)?;
@@ -102,7 +102,7 @@ impl Asking<'_> {
         watch: &W,
     ) -> Result<Answer, AllocError>
         requires ready { IsReady self.now.question }
-        requires inside { AreInside self.now.question patches.now }
+        requires of_image { ArePatchesOf self.now.question patches.now }
         ensures asked { IfOk result (λ answer. answer_in searches.new.items patches.now ≡ Some answer) }
         ensures grown { OnOk result (Grows searches.old.items searches.new.items) }
         ensures searched { OnOk result (AreSearched self.now searches.old.items → AreSearched self.now searches.new.items) }
@@ -119,7 +119,7 @@ impl Asking<'_> {
     /// A search of the program with these words replaced.
     fn search<W: Watch>(&self, patches: &[Patch], watch: &W) -> Result<Search, AllocError>
         requires ready { IsReady self.now.question }
-        requires inside { AreInside self.now.question patches.now }
+        requires of_image { ArePatchesOf self.now.question patches.now }
         ensures patches { IfOk result (λ search. search.patches.items ≡ patches.now) }
         ensures searched { IfOk result (IsSearchedBy self.now) }
     {

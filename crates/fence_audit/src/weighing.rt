@@ -1,10 +1,10 @@
 //! The weakest FENCEs that are enough in place of each that is needed.
 ghost use Rattle.std.specs.Prelude.{◌≡◌, All, OnOk};
 ghost use Rattle.std.specs.List.{list_any};
-ghost use Rattle.elf_loader.specs.Image.{HasWord};
+ghost use Rattle.elf_loader.specs.Image.{HasWord, word_at};
 ghost use Rattle.fence_audit.specs.Auditing.{AreWeighed, IsSame, IsWeighed, is_below};
-ghost use Rattle.fence_audit.specs.Searches.{AreInside, AreSearched, Grows, IsReady};
-ghost use Rattle.image_orderings.specs.Forms.{weaker_words};
+ghost use Rattle.fence_audit.specs.Searches.{ArePatchesOf, AreSearched, Grows, IsReady};
+ghost use Rattle.image_orderings.specs.Forms.{IsVariant, weaker_words};
 
 use crate::answers::Answer;
 use crate::searches::{Asking, Search};
@@ -24,7 +24,7 @@ impl Asking<'_> {
         watch: &W,
     ) -> Result<(), AllocError>
         requires ready { IsReady self.now.question }
-        requires inside { AreInside self.now.question own.now }
+        requires of_image { ArePatchesOf self.now.question own.now }
         requires places { All (λ o. HasWord self.now.question.image.now o.address) orderings.now }
         ensures weighed { OnOk result (All (AreWeighed self.now.question.image.now searches.new.items own.now) orderings.now) }
         ensures grown { OnOk result (Grows searches.old.items searches.new.items) }
@@ -45,7 +45,7 @@ impl Asking<'_> {
         watch: &W,
     ) -> Result<(), AllocError>
         requires ready { IsReady self.now.question }
-        requires inside { AreInside self.now.question own.now }
+        requires of_image { ArePatchesOf self.now.question own.now }
         requires place { HasWord self.now.question.image.now ordering.address }
         ensures weighed { OnOk result (AreWeighed self.now.question.image.now searches.new.items own.now ordering) }
         ensures grown { OnOk result (Grows searches.old.items searches.new.items) }
@@ -74,7 +74,8 @@ impl Asking<'_> {
         watch: &W,
     ) -> Result<(), AllocError>
         requires ready { IsReady self.now.question }
-        requires inside { AreInside self.now.question own.now }
+        requires word { word ≡ word_at self.now.question.image.now address }
+        requires of_image { ArePatchesOf self.now.question own.now }
         ensures weighed { OnOk result (All (IsWeighed searches.new.items own.now address) (weaker_words word)) }
         ensures grown { OnOk result (Grows searches.old.items searches.new.items) }
         ensures searched { OnOk result (AreSearched self.now searches.old.items → AreSearched self.now searches.new.items) }
@@ -99,7 +100,8 @@ impl Asking<'_> {
         watch: &W,
     ) -> Result<(), AllocError>
         requires ready { IsReady self.now.question }
-        requires inside { AreInside self.now.question own.now }
+        requires variant { IsVariant (word_at self.now.question.image.now address) form }
+        requires of_image { ArePatchesOf self.now.question own.now }
         requires same { All (IsSame searches.old.items own.now address) enough.old.items }
         ensures weighed { OnOk result (IsWeighed searches.new.items own.now address form) }
         ensures same { OnOk result (All (IsSame searches.new.items own.now address) enough.new.items) }

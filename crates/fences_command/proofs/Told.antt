@@ -11,7 +11,7 @@ use Rattle.command_files.specs.declared.fault.Fault.TheVariants.{BadAddress, Bad
 use Rattle.command_settings.specs.declared.wanted.Fences.{Fences}
 use Rattle.elf_loader.specs.Image.{Initial}
 use Rattle.elf_symbols.specs.Named.{Named}
-use Rattle.explore_command.specs.Exploring.{IsAllowFile, IsNamedBy}
+use Rattle.command_files.specs.Allowing.{IsAllowFile, IsNamedBy}
 use Rattle.exploration_text.specs.declared.wording.WordName.{WordName}
 use Rattle.fence_audit.specs.Adding.{IsAllowance}
 use Rattle.fence_audit.specs.Answers.{answer_within}

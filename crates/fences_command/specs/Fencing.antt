@@ -10,9 +10,9 @@ use Rattle.command_files.specs.declared.fault.Fault.TheVariants.{CannotRead, Can
 use Rattle.command_settings.specs.declared.wanted.Fences.{Fences}
 use Rattle.elf_loader.specs.Image.{Initial}
 use Rattle.elf_symbols.specs.Named.{Named}
-use Rattle.explore_command.specs.Exploring.{IsAllowFile}
-use Rattle.explore_command.specs.declared.judging.Judgement.{Judgement}
-use Rattle.explore_command.specs.declared.judging.Judgement.TheVariants.{Allowed, NotAllowed}
+use Rattle.command_files.specs.Allowing.{IsAllowFile}
+use Rattle.command_files.specs.declared.allowing.Judgement.{Judgement}
+use Rattle.command_files.specs.declared.allowing.Judgement.TheVariants.{Allowed, NotAllowed}
 use Rattle.fence_audit.specs.Adding.{IsAllowance}
 use Rattle.fence_audit.specs.Answers.{answer_within}
 use Rattle.fence_audit.specs.Auditing.{IsAudit}

@@ -8,11 +8,10 @@ ghost use Rattle.fence_audit.specs.Searches.{IsReady};
 ghost use Rattle.fences_command.specs.Fencing.{IsAuditCutOff, IsAuditTold, IsFencesFault, IsOfFile, IsSought, judgement_of, told_text};
 ghost use Rattle.text_fields.specs.Writing.{Begins};
 
-use command_files::{Fault, Files, named_config, out_of_limits};
+use command_files::{Fault, Files, Judgement, allow_file, named_config, out_of_limits};
 use command_settings::Fences;
 use elf_loader::Image;
 use elf_symbols::Symbols;
-use explore_command::{Judgement, allow_file};
 use fence_audit::allowed_outcomes::Allowed;
 use fence_audit::{Allowance, Question, audit_allowed, audit_program, lacking_text, text_of};
 use machine_types::Config;

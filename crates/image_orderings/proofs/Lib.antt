@@ -1,3 +1,4 @@
-mod Inside
+pub mod Inside
 mod Own
+pub mod Variants
 mod Walked

@@ -2,9 +2,11 @@
 use Rattle.std.proofs.Common.{◌≡◌, ◌∙◌, ◌++◌, ◌∷◌, ◌+◌, ◌-◌, ◌<◌, [], ℕ, All, Bool, List, append_assoc, arith, false, if◌then◌else◌, map, suc, sym, true, true≢false, zero}
 use Rattle.std.proofs.lemmas.List.{append-nil}
 use Rattle.std.proofs.lemmas.List.Elements.{All-cons, All-nil}
-use Rattle.elf_loader.specs.Image.{HasWord, Initial}
-use Rattle.image_orderings.specs.Adding.{may_be_more, patch_at, place_of, places_at, places_from}
+use Rattle.elf_loader.specs.Image.{HasWord, Initial, word_at}
+use Rattle.image_orderings.proofs.Variants.{itself}
+use Rattle.image_orderings.specs.Adding.{may_be_more, patch_at, places_at, places_from}
 use Rattle.image_orderings.specs.Orderings.{at, orderings_at, orderings_from}
+use Rattle.image_orderings.specs.Replaced.{IsPatchOf}
 use Rattle.image_orderings.specs.declared.orderings.ImageOrdering.{ImageOrdering}
 use Rattle.image_orderings.specs.declared.orderings.Part.{Part}
 use Rattle.image_orderings.specs.declared.replacing.Patch.{Patch}
@@ -29,11 +31,11 @@ place_walked image address (suc left) found some =
     let e : suc left - 1 ≡ left = omega arith in
     rw e (append_assoc found (places_at image address) (places_from image (address + 4) left))
 
-pub place_inside : (image : Initial) (address word : ℕ) → HasWord image address → All (λ (p : Patch). HasWord image p.address) (place_of address word)
-place_inside image address word h =
-    elim (may_be_more word) as (λ b. All (λ (p : Patch). HasWord image p.address) (if b then patch_at address word ∷ [] else [])) [
-      | true ↦ All-cons (λ (p : Patch). HasWord image p.address) (patch_at address word) [] h (All-nil (λ (p : Patch). HasWord image p.address))
-      | false ↦ All-nil (λ (p : Patch). HasWord image p.address)
+pub place_inside : (image : Initial) (address : ℕ) → HasWord image address → All (IsPatchOf image) (places_at image address)
+place_inside image address h =
+    elim (may_be_more (word_at image address)) as (λ b. All (IsPatchOf image) (if b then patch_at address (word_at image address) ∷ [] else [])) [
+      | true ↦ All-cons (IsPatchOf image) (patch_at address (word_at image address)) [] (record { place = h; variant = itself (word_at image address) }) (All-nil (IsPatchOf image))
+      | false ↦ All-nil (IsPatchOf image)
     ]
 
 -- one more element, where a test holds, and none where it doesn't

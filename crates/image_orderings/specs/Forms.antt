@@ -1,5 +1,5 @@
 -- Instructions that order less or more than another, and are the same otherwise.
-use Rattle.std.specs.Prelude.{ℕ, ◌&&◌, ◌||◌, ◌==◌, ◌∷◌, [], Bool, false, true, List, None, Option, Some, filter, if◌then◌else◌, map, not}
+use Rattle.std.specs.Prelude.{ℕ, ◌≡◌, ◌&&◌, ◌||◌, ◌==◌, ◌∷◌, [], Bool, false, true, List, Option, Some, filter, if◌then◌else◌, map, not}
 use Rattle.image_orderings.specs.declared.forms.OrderedPairs.{OrderedPairs}
 use Rattle.image_orderings.specs.declared.orderings.Part.{Part}
 use Rattle.image_orderings.specs.declared.orderings.Part.TheVariants as part
@@ -12,21 +12,11 @@ use Rattle.rv32_decode.specs.declared.instruction.Instr.{Instr}
 use Rattle.rv32_decode.specs.declared.instruction.Instr.TheVariants.{Amo, Fence, FenceTso, Immediate, Lr, Sc}
 use Rattle.memory_model.specs.declared.operation.Kind.TheVariants.{Load, Store}
 
--- ---- an instruction in place of another
+-- ---- less
 
 -- `addi x0, x0, 0` (chapter 2.4)
 abbrev pub nop : Instr
 nop = Immediate Addi 0 0 0
-
--- what a word becomes where its instruction becomes another; a word that is no instruction stays
-abbrev pub changed_by : (Instr → Instr) → ℕ → Option Instr → ℕ
-changed_by change word None = word
-changed_by change word (Some instr) = encoded (change instr)
-
-abbrev pub changed : (Instr → Instr) → ℕ → ℕ
-changed change word = changed_by change word (decoded word)
-
--- ---- less
 
 -- the bit cleared
 abbrev pub bits_without : Part → Annotations → Annotations
@@ -35,22 +25,22 @@ bits_without part.Acquire bits = record bits { acquire = false }
 bits_without part.Release bits = record bits { release = false }
 
 -- a FENCE as a whole, which becomes a nop
-abbrev pub fence_without : Part → Instr → Instr
-fence_without part.Fence fence = nop
-fence_without part.Acquire fence = fence
-fence_without part.Release fence = fence
+abbrev pub fence_without : Part → ℕ → ℕ
+fence_without part.Fence word = encoded nop
+fence_without part.Acquire word = word
+fence_without part.Release word = word
 
--- of an LR, SC or AMO the bit
-abbrev pub instr_without : Part → Instr → Instr
-instr_without p (Fence sets) = fence_without p (Fence sets)
-instr_without p FenceTso = fence_without p FenceTso
-instr_without p (Lr rd rs1 bits) = Lr rd rs1 (bits_without p bits)
-instr_without p (Sc rd rs1 rs2 bits) = Sc rd rs1 rs2 (bits_without p bits)
-instr_without p (Amo op rd rs1 rs2 bits) = Amo op rd rs1 rs2 (bits_without p bits)
-instr_without p instr = instr
+-- of an LR, SC or AMO the bit; another word stays
+abbrev pub without_of : Part → ℕ → Option Instr → ℕ
+without_of p word (Some (Fence sets)) = fence_without p word
+without_of p word (Some FenceTso) = fence_without p word
+without_of p word (Some (Lr rd rs1 bits)) = encoded (Lr rd rs1 (bits_without p bits))
+without_of p word (Some (Sc rd rs1 rs2 bits)) = encoded (Sc rd rs1 rs2 (bits_without p bits))
+without_of p word (Some (Amo op rd rs1 rs2 bits)) = encoded (Amo op rd rs1 rs2 (bits_without p bits))
+without_of p word _ = word
 
 abbrev pub without : Part → ℕ → ℕ
-without p = changed (instr_without p)
+without p word = without_of p word (decoded word)
 
 -- ---- FENCEs by what they order
 
@@ -93,14 +83,23 @@ weaker_words word = filter (λ form. is_weaker (decoded form) (decoded word)) (m
 abbrev pub both_bits : Annotations
 both_bits = record { acquire = true; release = true }
 
--- a FENCE orders all loads and stores; of an LR, SC or AMO both bits are set; a nop becomes such a FENCE
-abbrev pub instr_strengthened : Instr → Instr
-instr_strengthened (Fence sets) = fence_of 3 3
-instr_strengthened FenceTso = fence_of 3 3
-instr_strengthened (Lr rd rs1 bits) = Lr rd rs1 both_bits
-instr_strengthened (Sc rd rs1 rs2 bits) = Sc rd rs1 rs2 both_bits
-instr_strengthened (Amo op rd rs1 rs2 bits) = Amo op rd rs1 rs2 both_bits
-instr_strengthened instr = instr
+-- it orders all loads and stores
+abbrev pub full : Instr
+full = fence_of 3 3
 
+-- a FENCE becomes the one that orders all; of an LR, SC or AMO both bits are set; another word stays
+abbrev pub most_of : ℕ → Option Instr → ℕ
+most_of word (Some (Fence sets)) = encoded full
+most_of word (Some FenceTso) = encoded full
+most_of word (Some (Lr rd rs1 bits)) = encoded (Lr rd rs1 both_bits)
+most_of word (Some (Sc rd rs1 rs2 bits)) = encoded (Sc rd rs1 rs2 both_bits)
+most_of word (Some (Amo op rd rs1 rs2 bits)) = encoded (Amo op rd rs1 rs2 both_bits)
+most_of word _ = word
+
+-- and a nop becomes that FENCE
 abbrev pub strengthened : ℕ → ℕ
-strengthened word = if word == encoded nop then encoded (fence_of 3 3) else changed instr_strengthened word
+strengthened word = if word == encoded nop then encoded full else most_of word (decoded word)
+
+-- a word differs from its own at most in what it orders: with all that they may order they are the same
+pub record IsVariant (own word : ℕ) : Type 0 where
+  pub most : strengthened word ≡ strengthened own

@@ -2,6 +2,8 @@
 ghost use Rattle.std.specs.Prelude.{◌≡◌, ◌++◌, All, IfOk, OnOk};
 ghost use Rattle.elf_loader.specs.Image.{HasWord, Initial};
 ghost use Rattle.image_orderings.specs.Adding as spec;
+ghost use Rattle.image_orderings.specs.Forms.{IsVariant};
+ghost use Rattle.image_orderings.specs.Replaced.{IsPatchOf, addresses_of};
 
 use crate::forms::{is_weaker, strengthened, weaker_words, without};
 use crate::orderings::Part;
@@ -13,7 +15,7 @@ use std::alloc::{AllocError, Global};
 /// `addi x0, x0, 0`. A word of data that looks like one counts as one.
 pub fn places_of(alloc: Global, image: &Image) -> Result<Vec<Patch>, AllocError>
     ensures found { IfOk result (λ found. found.items ≡ spec.places_of image.now) }
-    ensures inside { IfOk result (λ found. All (λ p. HasWord image.now p.address) found.items) }
+    ensures of_image { IfOk result (λ found. All (IsPatchOf image.now) found.items) }
 {
     let mut found = Vec::new(alloc);
     let mut address = BASE;
@@ -47,10 +49,16 @@ fn may_be_more(word: u32) -> bool
 }
 
 /// The program in which each of these words orders all that it may.
-#[tactic(auto, using(crate::proofs::Inside::inside_strengthened))]
 pub fn patches_strengthened(alloc: Global, patches: &[Patch]) -> Result<Vec<Patch>, AllocError>
     ensures made { IfOk result (λ made. made.items ≡ spec.patches_strengthened patches.now) }
-    ensures inside { (image : Initial) → All (λ p. HasWord image p.address) patches.now → IfOk result (λ made. All (λ p. HasWord image p.address) made.items) }
+    ensures of_image { (image : Initial) → All (IsPatchOf image) patches.now → IfOk result (λ made. All (IsPatchOf image) made.items) }
+    ensures places { IfOk result (λ made. addresses_of made.items ≡ addresses_of patches.now) }
+{
+    each_strengthened(alloc, patches)
+}
+
+fn each_strengthened(alloc: Global, patches: &[Patch]) -> Result<Vec<Patch>, AllocError>
+    ensures { IfOk result (λ made. made.items ≡ spec.patches_strengthened patches.now) }
 {
     let each = patches.iter().map(|patch| patch_strengthened(*patch));
     each.collect(alloc)
@@ -68,8 +76,10 @@ fn patch_strengthened(patch: Patch) -> Patch
 
 /// Words that order less than this one, and more than the word in whose place it stands: FENCEs, those of fewer pairs
 /// first, or the word without rl and without aq.
+#[tactic(auto, using(crate::proofs::Variants::milder_variants))]
 pub fn milder_words(alloc: Global, own: u32, word: u32) -> Result<Vec<u32>, AllocError>
-    ensures { IfOk result (λ words. words.items ≡ spec.milder_words own word) }
+    ensures words { IfOk result (λ words. words.items ≡ spec.milder_words own word) }
+    ensures variants { IfOk result (λ words. All (IsVariant word) words.items) }
 {
     let mut words = fences_between(alloc, own, word)?;
     add_milder(&mut words, Part::Release, own, word)?;

@@ -1,14 +1,11 @@
 //! Words that order less or more than others.
-ghost use Rattle.std.specs.Prelude.{◌≡◌, IfOk, Some};
+ghost use Rattle.std.specs.Prelude.{◌≡◌, All, IfOk, Some};
 ghost use Rattle.image_orderings.specs.Forms as spec;
 ghost use Rattle.rv32_decode.specs.Rows.{decoded};
 ghost use Rattle.rv32_decode.specs.declared.instruction.Instr.TheVariants as instr;
 
 use crate::orderings::Part;
-use bitflags::Flags;
-use rv32_decode::{
-    Annotations, FenceSet, FenceSets, Immediate12, ImmediateOp, Instr, Register, decode, encode,
-};
+use rv32_decode::{Annotations, FenceSets, Instr, decode, encode};
 use std::alloc::{AllocError, Global};
 
 /// `addi x0, x0, 0`.
@@ -96,6 +93,13 @@ pub fn is_weaker(word: u32, other: u32) -> bool
 
 /// The FENCEs that order something, and less than this word, those of fewer pairs first.
 pub fn weaker_words(alloc: Global, word: u32) -> Result<Vec<u32>, AllocError>
+    ensures words { IfOk result (λ words. words.items ≡ spec.weaker_words word) }
+    ensures variants { IfOk result (λ words. All (spec.IsVariant word) words.items) }
+{
+    forms_below(alloc, word)
+}
+
+fn forms_below(alloc: Global, word: u32) -> Result<Vec<u32>, AllocError>
     ensures { IfOk result (λ words. words.items ≡ spec.weaker_words word) }
 {
     let forms = FORMS.iter().copied();
@@ -107,24 +111,18 @@ pub fn weaker_words(alloc: Global, word: u32) -> Result<Vec<u32>, AllocError>
 pub fn without(part: Part, word: u32) -> u32
     ensures { result ≡ spec.without part word }
 {
-    match decode(word) {
-        Some(instr) => encode(&instr_without(part, &instr)),
-        None => word,
-    }
-}
-
-fn instr_without(part: Part, instr: &Instr) -> Instr
-    ensures { result ≡ spec.instr_without part instr.now }
-{
-    match *instr {
-        Instr::Fence(_) | Instr::FenceTso => fence_without(part, instr),
+    let Some(instr) = decode(word) else {
+        return word;
+    };
+    match instr {
+        Instr::Fence(_) | Instr::FenceTso => fence_without(part, word),
         Instr::Lr { rd, rs1, bits } => {
             let bits = bits_without(part, bits);
-            Instr::Lr { rd, rs1, bits }
+            encode(&Instr::Lr { rd, rs1, bits })
         }
         Instr::Sc { rd, rs1, rs2, bits } => {
             let bits = bits_without(part, bits);
-            Instr::Sc { rd, rs1, rs2, bits }
+            encode(&Instr::Sc { rd, rs1, rs2, bits })
         }
         Instr::Amo {
             op,
@@ -134,35 +132,24 @@ fn instr_without(part: Part, instr: &Instr) -> Instr
             bits,
         } => {
             let bits = bits_without(part, bits);
-            Instr::Amo {
+            encode(&Instr::Amo {
                 op,
                 rd,
                 rs1,
                 rs2,
                 bits,
-            }
+            })
         }
-        other => other,
+        _ => word,
     }
 }
 
-fn fence_without(part: Part, fence: &Instr) -> Instr
-    ensures { result ≡ spec.fence_without part fence.now }
+fn fence_without(part: Part, word: u32) -> u32
+    ensures { result ≡ spec.fence_without part word }
 {
     match part {
-        Part::Fence => nop(),
-        Part::Acquire | Part::Release => *fence,
-    }
-}
-
-fn nop() -> Instr
-    ensures { result ≡ spec.nop }
-{
-    Instr::Immediate {
-        op: ImmediateOp::Addi,
-        rd: Register::new(0),
-        rs1: Register::new(0),
-        imm: Immediate12::new(0),
+        Part::Fence => NOP,
+        Part::Acquire | Part::Release => word,
     }
 }
 
@@ -190,43 +177,36 @@ pub fn strengthened(word: u32) -> u32
     if word == NOP {
         return FULL;
     }
-    match decode(word) {
-        Some(instr) => encode(&instr_strengthened(&instr)),
-        None => word,
-    }
+    let Some(instr) = decode(word) else {
+        return word;
+    };
+    most_of(word, &instr)
 }
 
-fn instr_strengthened(instr: &Instr) -> Instr
-    ensures { result ≡ spec.instr_strengthened instr.now }
+fn most_of(word: u32, instr: &Instr) -> u32
+    ensures { result ≡ spec.most_of word (Some instr.now) }
 {
     let bits = Annotations {
         acquire: true,
         release: true,
     };
     match *instr {
-        Instr::Fence(_) | Instr::FenceTso => full(),
-        Instr::Lr { rd, rs1, .. } => Instr::Lr { rd, rs1, bits },
-        Instr::Sc { rd, rs1, rs2, .. } => Instr::Sc { rd, rs1, rs2, bits },
+        Instr::Fence(_) | Instr::FenceTso => FULL,
+        Instr::Lr { rd, rs1, .. } => encode(&Instr::Lr { rd, rs1, bits }),
+        Instr::Sc { rd, rs1, rs2, .. } => encode(&Instr::Sc { rd, rs1, rs2, bits }),
         Instr::Amo {
             op,
             rd,
             rs1,
             rs2,
             ..
-        } => Instr::Amo {
+        } => encode(&Instr::Amo {
             op,
             rd,
             rs1,
             rs2,
             bits,
-        },
-        other => other,
+        }),
+        _ => word,
     }
-}
-
-fn full() -> Instr
-    ensures { result ≡ spec.fence_of 3 3 }
-{
-    let both = FenceSet::from_bits_retain(3);
-    Instr::Fence(FenceSets::new(both, both))
 }

@@ -1,7 +1,9 @@
 //! Programs that are an image with words replaced where it orders memory operations.
-ghost use Rattle.std.specs.Prelude.{◌≡◌, All, IfOk, length};
-ghost use Rattle.elf_loader.specs.Image.{HasWord, Initial};
+ghost use Rattle.std.specs.Prelude.{◌≡◌, All, IfOk, IfSome, length};
+ghost use Rattle.elf_loader.specs.Image.{HasWord, Initial, word_at};
+ghost use Rattle.image_orderings.specs.Forms.{IsVariant};
 ghost use Rattle.image_orderings.specs.Programs as spec;
+ghost use Rattle.image_orderings.specs.Replaced.{IsPatchOf, addresses_of};
 
 use crate::forms::without;
 use crate::orderings::ImageOrdering;
@@ -17,7 +19,7 @@ pub fn own_patches(
 ) -> Result<Vec<Patch>, AllocError>
     requires inside { All (λ o. HasWord image.now o.address) orderings.now }
     ensures made { IfOk result (λ made. made.items ≡ spec.own_patches image.now orderings.now) }
-    ensures inside { IfOk result (λ made. All (λ p. HasWord image.now p.address) made.items) }
+    ensures of_image { IfOk result (λ made. All (IsPatchOf image.now) made.items) }
 {
     let mut made = Vec::new(alloc);
     let mut rest = orderings;
@@ -39,14 +41,24 @@ fn own_patch(image: &Image, ordering: ImageOrdering) -> Patch
 }
 
 /// The program without what orders there.
-#[tactic(auto, using(crate::proofs::Inside::inside_without))]
 pub fn patches_without(
     alloc: Global,
     patches: &[Patch],
     ordering: ImageOrdering,
 ) -> Result<Vec<Patch>, AllocError>
     ensures made { IfOk result (λ made. made.items ≡ spec.patches_without ordering patches.now) }
-    ensures inside { (image : Initial) → All (λ p. HasWord image p.address) patches.now → IfOk result (λ made. All (λ p. HasWord image p.address) made.items) }
+    ensures of_image { (image : Initial) → All (IsPatchOf image) patches.now → IfOk result (λ made. All (IsPatchOf image) made.items) }
+    ensures places { IfOk result (λ made. addresses_of made.items ≡ addresses_of patches.now) }
+{
+    each_without(alloc, patches, ordering)
+}
+
+fn each_without(
+    alloc: Global,
+    patches: &[Patch],
+    ordering: ImageOrdering,
+) -> Result<Vec<Patch>, AllocError>
+    ensures { IfOk result (λ made. made.items ≡ spec.patches_without ordering patches.now) }
 {
     let each = patches.iter().map(|patch| patch_without(*patch, ordering));
     each.collect(alloc)
@@ -66,7 +78,6 @@ fn patch_without(patch: Patch, ordering: ImageOrdering) -> Patch
 }
 
 /// The program with another word at an address.
-#[tactic(auto, using(crate::proofs::Inside::inside_with))]
 pub fn patches_with(
     alloc: Global,
     patches: &[Patch],
@@ -74,7 +85,19 @@ pub fn patches_with(
     word: u32,
 ) -> Result<Vec<Patch>, AllocError>
     ensures made { IfOk result (λ made. made.items ≡ spec.patches_with address word patches.now) }
-    ensures inside { (image : Initial) → All (λ p. HasWord image p.address) patches.now → IfOk result (λ made. All (λ p. HasWord image p.address) made.items) }
+    ensures of_image { (image : Initial) → IsVariant (word_at image address) word → All (IsPatchOf image) patches.now → IfOk result (λ made. All (IsPatchOf image) made.items) }
+    ensures places { IfOk result (λ made. addresses_of made.items ≡ addresses_of patches.now) }
+{
+    each_with(alloc, patches, address, word)
+}
+
+fn each_with(
+    alloc: Global,
+    patches: &[Patch],
+    address: u32,
+    word: u32,
+) -> Result<Vec<Patch>, AllocError>
+    ensures { IfOk result (λ made. made.items ≡ spec.patches_with address word patches.now) }
 {
     let each = patches
         .iter()
@@ -94,7 +117,8 @@ fn patch_with(patch: Patch, address: u32, word: u32) -> Patch
 
 /// The word at an address, where one is replaced.
 pub fn word_in(patches: &[Patch], address: u32) -> Option<u32>
-    ensures { result ≡ spec.word_in patches.now address }
+    ensures word { result ≡ spec.word_in patches.now address }
+    ensures of_image { (image : Initial) → All (IsPatchOf image) patches.now → IfSome result (IsVariant (word_at image address)) }
 {
     let mut rest = patches;
     while let [first, tail @ ..] = rest {

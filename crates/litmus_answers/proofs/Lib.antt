@@ -2,3 +2,4 @@ pub mod Stacks
 pub mod Counts
 pub mod Sorting
 pub mod Parting
+pub mod Faults

@@ -4,7 +4,6 @@ use Rattle.std.specs.Global.{Vec}
 use Rattle.litmus_image.specs.declared.part.Part.{Part}
 use Rattle.litmus_text.specs.Tests.{Meaning}
 use Rattle.litmus_image.specs.Image.{words_of}
-use Rattle.litmus_parts.specs.declared.told.Told.{Told}
 use Rattle.litmus_answers.specs.Layouts.{AreParts, ArePartsFrom, IsLayout, IsPart, addresses_of, beginnings_of, harts_told, locations_told}
 use Rattle.litmus_answers.specs.Naming.{AreSorted, names_in}
 use Rattle.litmus_answers.specs.declared.layout.Layout.{Layout}

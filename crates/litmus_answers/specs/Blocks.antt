@@ -1,9 +1,7 @@
 -- How a test's answer is told.
-use Rattle.std.specs.Prelude.{ℕ, ◌==◌, Bool, true, false, List, [], ◌∷◌, ◌++◌, length, codes, decimal, if◌then◌else◌}
-use Rattle.std.specs.Global.{Vec}
+use Rattle.std.specs.Prelude.{ℕ, ◌==◌, Bool, true, false, List, ◌++◌, length, codes, decimal, if◌then◌else◌}
 use Rattle.litmus_text.specs.declared.question.Kind.{Kind}
 use Rattle.litmus_text.specs.declared.question.Kind.TheVariants.{Exists, NotExists, Forall}
-use Rattle.litmus_parts.specs.declared.told.Told.{Told}
 use Rattle.litmus_answers.specs.declared.answer.Tally.{Tally}
 use Rattle.litmus_answers.specs.declared.answer.Answer.{Answer}
 use Rattle.litmus_answers.specs.declared.answer.Answer.TheVariants.{No, NoRun, Ok, Undecided}

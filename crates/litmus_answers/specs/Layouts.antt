@@ -1,5 +1,5 @@
 -- A test's program, and where the values that its states tell come from.
-use Rattle.std.specs.Prelude.{ℕ, ◌≡◌, ◌+◌, ◌==◌, ◌&&◌, ◌||◌, nat_lt, Bool, true, false, List, [], ◌∷◌, ◌++◌, length, replicate, slice_set, IsSome, Ok, if◌then◌else◌}
+use Rattle.std.specs.Prelude.{ℕ, ◌≡◌, ◌+◌, ◌==◌, ◌&&◌, ◌||◌, nat_lt, Bool, false, List, [], ◌∷◌, ◌++◌, length, replicate, slice_set, Ok, if◌then◌else◌}
 use Rattle.std.specs.Global.{Vec}
 use Rattle.litmus_image.specs.Image.{words_of}
 use Rattle.litmus_image.specs.declared.part.Part.{Part}
@@ -11,10 +11,7 @@ use Rattle.litmus_parts.specs.declared.places.Place.TheVariants as places
 use Rattle.litmus_parts.specs.declared.places.Value.{Value}
 use Rattle.litmus_parts.specs.declared.told.Told.{Told}
 use Rattle.litmus_parts.specs.declared.told.Told.TheVariants as told
-use Rattle.litmus_parts.specs.declared.stop.Stop.{Stop}
-use Rattle.litmus_parts.specs.declared.stop.Stop.TheVariants.{At, Memory}
 use Rattle.litmus_parts.specs.Places.{is_location}
-use Rattle.litmus_parts.specs.Stops.{fault_of}
 use Rattle.litmus_text.specs.Questions.{Asked}
 use Rattle.litmus_text.specs.Tests.{Meaning}
 use Rattle.litmus_answers.specs.declared.layout.Layout.{Layout}
@@ -116,11 +113,6 @@ abbrev pub addresses_of : Asked → List (Vec ℕ) → List ℕ
 addresses_of a names = addresses_from a 0 names
 
 -- ---- the whole
-
--- no program, and why; a test for another machine has one
-abbrev pub IsFault : Stop → Type 0
-IsFault Memory = Unit {0}
-IsFault (At cause left) = IsSome (fault_of cause)
 
 -- main memory's words are those of the test's harts and locations; a state tells the registers that are asked for by hart and number, and then such locations by name, whose addresses these are
 pub record IsLayout (t : Meaning) (layout : Layout) : Type 0 where

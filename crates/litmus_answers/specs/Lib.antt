@@ -6,3 +6,4 @@ pub mod States
 pub mod Blocks
 pub mod Naming
 pub mod Layouts
+pub mod Faults

@@ -1,8 +1,8 @@
 //! A test's program, and what a state of it tells.
-ghost use Rattle.std.specs.Prelude.{◌≡◌, ◌≤◌, length, IfErr, IfOk, IsSome};
+ghost use Rattle.std.specs.Prelude.{◌≡◌, ◌≤◌, length, IfErr, IfOk};
+ghost use Rattle.litmus_answers.specs.Faults as faults;
 ghost use Rattle.litmus_answers.specs.Layouts as layouts;
 ghost use Rattle.litmus_answers.specs.Naming as naming;
-ghost use Rattle.litmus_parts.specs.Stops.{fault_of};
 ghost use Rattle.litmus_text.specs.Tests.{meaning};
 
 use crate::locations::{address_at, is_location, low_bytes, names_of, value_of};
@@ -82,7 +82,7 @@ fn addresses_of(alloc: Global, test: &Test, names: &[Vec<u8>]) -> Result<Vec<u32
 
 /// What no test has where the program can't have it.
 fn cause_of(cause: ImageCause) -> Cause
-    ensures { IsSome (fault_of result) }
+    ensures { result ≡ faults.cause_of cause }
 {
     match cause {
         ImageCause::NoLabel => Cause::Label,
@@ -94,20 +94,27 @@ fn cause_of(cause: ImageCause) -> Cause
 }
 
 /// Where the line of this number stands in a hart's column; where there is none, the column's last line.
-fn left_of(lines: &[CodeLine], hart: usize, number: usize) -> usize {
-    let mut before: usize = 0;
+fn left_of(lines: &[CodeLine], hart: usize, number: usize) -> usize
+    ensures { result ≡ faults.left_of lines.now hart number }
+{
     let mut left = 0;
-    for line in lines {
-        if line.hart as usize == hart && before <= number {
-            left = line.left;
-            before = before.saturating_add(1);
+    let mut before = number;
+    let mut rest = lines;
+    while let [first, tail @ ..] = rest {
+        if first.hart as usize == hart {
+            if before == 0 {
+                return first.left;
+            }
+            left = first.left;
+            before -= 1;
         }
+        rest = tail;
     }
     left
 }
 
 fn stop_of(test: &Test, error: ImageError) -> Stop
-    ensures { layouts.IsFault result }
+    ensures { result ≡ faults.stop_of test.now.lines.items error }
 {
     match error {
         ImageError::Fault { hart, line, cause } => Stop::At {
@@ -119,13 +126,13 @@ fn stop_of(test: &Test, error: ImageError) -> Stop
 }
 
 /// The program and the places, locations being of these names.
-#[tactic(auto, using(crate::proofs::Parting::is_layout))]
+#[tactic(auto, using(crate::proofs::Faults::no_words, crate::proofs::Parting::is_layout))]
 fn laid_out(alloc: Global, test: &Test, names: Vec<Vec<u8>>) -> Result<Layout, Stop>
     requires few { length names.items ≤ 64 }
     requires sorted { naming.AreSorted (naming.names_in (meaning test.now)) names.items }
     ensures few { IfOk result (λ layout. length layout.names.items ≤ 64) }
     ensures layout { IfOk result (layouts.IsLayout (meaning test.now)) }
-    ensures fault { IfErr result layouts.IsFault }
+    ensures fault { IfErr result (faults.IsFault (meaning test.now)) }
 {
     let Ok(parts) = parts_of(alloc, test, &names) else {
         return Err(Stop::Memory);
@@ -152,10 +159,11 @@ fn laid_out(alloc: Global, test: &Test, names: Vec<Vec<u8>>) -> Result<Layout, S
 }
 
 /// The program of a test and what its states tell; or why there is none.
+#[tactic(auto, using(crate::proofs::Faults::too_many))]
 pub fn layout_of(alloc: Global, test: &Test) -> Result<Layout, Stop>
     ensures few { IfOk result (λ layout. length layout.names.items ≤ 64) }
     ensures layout { IfOk result (layouts.IsLayout (meaning test.now)) }
-    ensures fault { IfErr result layouts.IsFault }
+    ensures fault { IfErr result (faults.IsFault (meaning test.now)) }
 {
     let Ok(names) = names_of(alloc, test) else {
         return Err(Stop::Memory);

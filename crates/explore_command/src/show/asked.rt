@@ -3,16 +3,15 @@
 ghost use Rattle.std.specs.Prelude.{◌≡◌, Err, IfErr, IfOk, option_map};
 ghost use Rattle.command_files.specs.Sizes.{IsInside, IsOutside, config_named};
 ghost use Rattle.elf_loader.specs.Size.{IsMemoryKib};
-ghost use Rattle.explore_command.specs.Exploring.{IsAllowFile};
+ghost use Rattle.command_files.specs.Allowing.{IsAllowFile};
 ghost use Rattle.explore_command.specs.Asking.{HasProgram, HasProgramBy, IsAskingFault};
 ghost use Rattle.explore_command.specs.Keeping.{HasName};
 ghost use Rattle.explore_command.specs.Targets.{names_of};
 ghost use Rattle.explorer.specs.Words.{CanShowEach};
 
-use crate::asked::allow_file;
 use crate::keeping::check_folder;
 use crate::show::targets::{Targets, targets_of};
-use command_files::{Fault, Files, named_config, out_of_limits};
+use command_files::{Fault, Files, allow_file, named_config, out_of_limits};
 use command_settings::Explore;
 use elf_loader::Image;
 use elf_symbols::Symbols;

@@ -14,12 +14,12 @@ ghost use Rattle.text_fields.specs.Writing.{Begins};
 
 use crate::exploring::Telling;
 use crate::findings::print;
-use crate::judging::{Judgement, judge};
+use crate::judging::judge;
 use crate::keeping::keep;
 use crate::seeking::First;
 use crate::show::asked::AskedWords;
 use crate::show::words::Shown;
-use command_files::{Fault, Files, Unshown};
+use command_files::{Fault, Files, Judgement, Unshown};
 use command_settings::{Explore, Show};
 use explorer::{Exploration, Exploring, explore};
 use progress_line::Progress;

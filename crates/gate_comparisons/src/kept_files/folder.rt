@@ -144,6 +144,10 @@ impl<R: System + AllocGlobal> Files for Backed<'_, R> {
         }
     }
 
+    fn are_same(&mut self, one: &str, other: &str) -> bool {
+        one == other
+    }
+
     fn write(&mut self, name: &str, bytes: &[u8]) -> io::Result<()> {
         self.folder.write(name, bytes)
     }

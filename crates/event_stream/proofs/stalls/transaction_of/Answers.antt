@@ -1,7 +1,7 @@
 use Rattle.std.proofs.Common.{ap, ◌∙◌}
 use Rattle.machine_model.specs.Views.{State, place_of}
 use Rattle.tl_types.specs.declared.line.LineSize.{LineSize}
-use Rattle.event_stream.proofs.Stalls.{noted_place}
+use Rattle.event_stream.proofs.FrontLines.{noted_place}
 use Rattle.event_stream.proofs.stalls.transaction_of.Goals as goal
 
 pub place_of-requires : goal.place_of-requires

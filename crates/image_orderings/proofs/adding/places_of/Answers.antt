@@ -1,8 +1,9 @@
 use Rattle.std.proofs.Common.{◌≡◌, ◌∙◌, ◌++◌, ◌+◌, ◌-◌, ◌<◌, ◌≤◌, All, List, ap, arith, subst, sym}
 use Rattle.std.proofs.lemmas.List.Elements.{All-append}
-use Rattle.elf_loader.specs.Image.{HasWord, end_of, word_at}
+use Rattle.elf_loader.specs.Image.{end_of}
 use Rattle.image_orderings.specs.Adding.{places_at, places_from}
 use Rattle.image_orderings.specs.declared.replacing.Patch.{Patch}
+use Rattle.image_orderings.specs.Replaced.{IsPatchOf}
 use Rattle.image_orderings.proofs.Walked.{place_inside, place_walked}
 use Rattle.image_orderings.proofs.adding.places_of.Goals as goal
 
@@ -16,7 +17,7 @@ loop-left-preserved c =
     let some : 0 < left = omega arith in
     let below : address + 4 ≤ end_of image = omega arith in
     let grown : c.add_place.new.found.items ≡ old ++ places_at image address = c.in_ok-add_place.ensures in
-    let P = λ (p : Patch). HasWord image p.address in (
+    let P = IsPatchOf image in (
       ap (λ (xs : List Patch). xs ++ places_from image (address + 4) (left - 1)) grown ∙ (place_walked image address left old some ∙ was.0),
-      (omega arith, (omega arith, subst (All P) (sym grown) (All-append P old _ was.1.1.1 (place_inside image address (word_at image address) (was.1.1.0, below))))),
+      (omega arith, (omega arith, subst (All P) (sym grown) (All-append P old _ was.1.1.1 (place_inside image address (was.1.1.0, below))))),
     )

@@ -1,4 +1,4 @@
-use Rattle.std.proofs.Common.{◌≡◌, length, arith}
+use Rattle.std.proofs.Common.{arith}
 use Rattle.std.proofs.lemmas.Grind.{common_steps}
 use Rattle.litmus_answers.proofs.Counts.{tally_step}
 use Rattle.litmus_answers.proofs.answer.tally_of.Goals as goal

@@ -4,7 +4,7 @@ use Rattle.explore_command.proofs.ModelKept.{way_file}
 use Rattle.explore_command.proofs.Readable.{each_has_text}
 use Rattle.explore_command.proofs.Searched.{has, noted, whole}
 use Rattle.explore_command.specs.Telling.{AreRemarked}
-use Rattle.explore_command.specs.declared.judging.Judgement.TheVariants.{NotAllowed}
+use Rattle.command_files.specs.declared.allowing.Judgement.TheVariants.{NotAllowed}
 use Rattle.architecture_outcomes.specs.declared.outcome.Outcome.{Outcome}
 use Rattle.explore_command.proofs.Explored.{all_of, err_more, memory_left, memory_told, ok_both, ok_more, spared, spared_after}
 use Rattle.explore_command.proofs.Faults.{folder_late, folder_left, folder_told, memory_late, output_left, output_told}

@@ -7,7 +7,7 @@ loop-patch-preserved g c =
     let made = c.in_ok-last.ensures in
     record {
       enough = made.enough;
-      inside = made.inside;
+      of_image = made.of_image;
       grown = grows_on c.args.searches.now.items c.loop-patch.searches.items c.milder_at.new.searches.items was.grown made.grown;
       searched = λ first. made.searched (was.searched first);
     }

@@ -1,11 +1,11 @@
 use Rattle.fence_audit.specs.Auditing.{IsEnough}
-use Rattle.fence_audit.specs.Searches.{AreInside, AreSearched, Grows}
+use Rattle.fence_audit.specs.Searches.{ArePatchesOf, AreSearched, Grows}
 use Rattle.fence_audit.proofs.searches.Asking.milder.Given as goal
 
 abbrev pub invariant-loop-patch : goal.invariant-loop-patch
 invariant-loop-patch g l = record {
   enough : IsEnough l.most l.searches.items l.last.items;
-  inside : AreInside l.self.question l.last.items;
+  of_image : ArePatchesOf l.self.question l.last.items;
   grown : Grows l.initial.searches.items l.searches.items;
   searched : AreSearched l.self l.initial.searches.items → AreSearched l.self l.searches.items;
 }

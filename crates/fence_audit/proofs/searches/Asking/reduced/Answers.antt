@@ -7,7 +7,7 @@ loop-ordering-preserved g c =
     let made = c.in_ok-last-2.ensures in
     record {
       enough = made.enough;
-      inside = made.inside;
+      of_image = made.of_image;
       grown = grows_on c.args.searches.now.items c.loop-ordering.searches.items c.reduced_by.new.searches.items was.grown made.grown;
       searched = λ first. made.searched (was.searched first);
     }

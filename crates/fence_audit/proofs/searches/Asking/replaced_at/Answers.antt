@@ -1,21 +1,27 @@
 use Rattle.std.proofs.Common.{subst, sym}
-use Rattle.fence_audit.proofs.Told.{enough_stays, grows_on}
-use Rattle.fence_audit.specs.Searches.{AreInside}
+use Rattle.std.proofs.lemmas.List.Elements.{All-get_or}
+use Rattle.elf_loader.specs.Image.{word_at}
+use Rattle.fence_audit.proofs.Told.{enough_found, enough_stays, grows_on}
+use Rattle.fence_audit.specs.Searches.{ArePatchesOf}
+use Rattle.image_orderings.specs.Forms.{IsVariant}
 use Rattle.fence_audit.proofs.searches.Asking.replaced_at.Goals as goal
 
-pub ask-requires-clause-inside : goal.ask-requires-clause-inside
-ask-requires-clause-inside g c =
+pub ask-requires-clause-of_image : goal.ask-requires-clause-of_image
+ask-requires-clause-of_image g c =
     let question = c.args.self.now.question in
-    let before : AreInside question c.deref-in-loop-form.result.now = subst (AreInside question) (sym c.deref-in-loop-form.ensures.value) c.loop-form.invariant.inside in
-    let made : AreInside question c.in_ok-tried.tried.items = c.in_ok-tried.ensures.inside question.image.now before in
-    subst (AreInside question) (sym c.deref-in-loop-form-2.ensures.value) made
+    let before : ArePatchesOf question c.deref-in-loop-form.result.now = subst (ArePatchesOf question) (sym c.deref-in-loop-form.ensures.value) c.loop-form.invariant.of_image in
+    let variant = All-get_or (IsVariant (word_at question.image.now c.args.address)) c.args.words.now c.loop-form.form-index 0 c.loop-form-test.true c.requires.variants in
+    subst (ArePatchesOf question) (sym c.deref-in-loop-form-2.ensures.value) (c.in_ok-tried.ensures.of_image question.image.now variant before)
 
-pub returns-in-Same-clause-inside : goal.returns-in-Same-clause-inside
-returns-in-Same-clause-inside g c =
+pub returns-in-Same-clause-of_image : goal.returns-in-Same-clause-of_image
+returns-in-Same-clause-of_image g c =
     let question = c.args.self.now.question in
-    let before : AreInside question c.deref-in-loop-form.result.now = subst (AreInside question) (sym c.deref-in-loop-form.ensures.value) c.loop-form.invariant.inside in
-    let made : AreInside question c.in_ok-tried.tried.items = c.in_ok-tried.ensures.inside question.image.now before in
-    made
+    let before : ArePatchesOf question c.deref-in-loop-form.result.now = subst (ArePatchesOf question) (sym c.deref-in-loop-form.ensures.value) c.loop-form.invariant.of_image in
+    let variant = All-get_or (IsVariant (word_at question.image.now c.args.address)) c.args.words.now c.loop-form.form-index 0 c.loop-form-test.true c.requires.variants in
+    c.in_ok-tried.ensures.of_image question.image.now variant before
+
+pub returns-in-Same-clause-enough : goal.returns-in-Same-clause-enough
+returns-in-Same-clause-enough g c = ?
 
 pub returns-in-Same-clause-searched : goal.returns-in-Same-clause-searched
 returns-in-Same-clause-searched g c = λ first. c.in_ok-answer.ensures.searched (c.loop-form.invariant.searched first)
@@ -27,7 +33,7 @@ loop-form-preserved g c =
     let new = c.ask.new.searches.items in
     record {
       enough = enough_stays c.args.own.now old new c.args.last.items c.in_ok-answer.ensures.grown was.enough;
-      inside = was.inside;
+      of_image = was.of_image;
       grown = grows_on c.args.searches.now.items old new was.grown c.in_ok-answer.ensures.grown;
       searched = λ first. c.in_ok-answer.ensures.searched (was.searched first);
     }

@@ -8,7 +8,7 @@ loop-ordering-preserved g c =
     elim c.if-eq.branch [
       | then-eq+in_ok-last w ↦ rw (w.searches-is, w.last-is) record {
         enough = w.in_ok-last.ensures.enough;
-        inside = w.in_ok-last.ensures.inside;
+        of_image = w.in_ok-last.ensures.of_image;
         grown = grows_on c.args.searches.now.items c.loop-ordering.searches.items w.weakened_at.new.searches.items was.grown w.in_ok-last.ensures.grown;
         searched = λ first. w.in_ok-last.ensures.searched (was.searched first);
       }

@@ -2,8 +2,10 @@
 
 ghost use Rattle.std.specs.Prelude.{◌≡◌};
 
+use crate::escaped::Escaped;
+use crate::files::Files;
+use crate::remarked::remark;
 use bstr::ByteSlice;
-use command_files::{Escaped, Files, remark};
 use std::alloc::Global;
 use std::fmt::{self, Display, Formatter};
 use std::str;
