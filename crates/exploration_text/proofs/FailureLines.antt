@@ -1,5 +1,5 @@
 -- Lines of failures, one put behind the other.
-use Rattle.std.proofs.Common.{◌≡◌, ◌≤◌, ◌+◌, ◌-◌, ◌∙◌, ◌++◌, ◌∷◌, [], List, ap, arith, drop, get_or, length, sym, take, ℕ}
+use Rattle.std.proofs.Common.{◌≡◌, ◌≤◌, ◌+◌, ◌-◌, ◌∙◌, ◌++◌, ◌∷◌, [], List, ap, arith, drop, get_or, length, take, ℕ}
 use Rattle.std.proofs.lemmas.List.{append_assoc, take_all}
 use Rattle.elf_symbols.specs.Named.{Named}
 use Rattle.exploration_text.specs.Failures.{failure_line, failure_lines}

@@ -15,6 +15,7 @@ use Rattle.command_files.specs.Allowing.{IsAllowFile}
 use Rattle.explore_command.specs.Exploring.{IsExploreFault, IsExplorationTold, IsFoundIn, ExplorationHas, ExplorationRefusals, LeavesPart, exploration_fails}
 use Rattle.explore_command.specs.Judging.{HaveRefusals, IsJudged, judgement_of_lines}
 use Rattle.explore_command.specs.Keeping.{AreKept, HasName, IsInNamed, IsScriptOf, SparesOthers}
+use Rattle.explore_command.specs.Sought.{EndsJudged}
 use Rattle.command_files.specs.declared.allowing.Judgement.{Judgement}
 use Rattle.command_files.specs.declared.allowing.Judgement.TheVariants.{Allowed}
 use Rattle.explorer.specs.Ends.{outcome_of}
@@ -79,8 +80,8 @@ module _ (held : Contents) (wanted : Explore) (config : Config) (image : Initial
 
   pub whole : (old new : Option (List ℕ)) (left : Contents) (judgement : Judgement) → Appends old new (exploration_text [] symbols found) → HasName wanted.scripts → IfSome wanted.scripts (λ folder. AreKept left config wanted.machine.memory folder.now found)
       → SparesOthers (IsInNamed wanted.scripts (IsScriptOf (length found.outcomes.items) (length found.failures.items) found.stuck)) held left
-      → IsJudged held wanted.allow (map (λ f. end_text [] (outcome_of f)) found.outcomes.items) (exploration_fails wanted.fail_on found) judgement → (judgement ≡ Allowed → found.extent ≢ extent.OutOfMemory) → IsExplorationTold held left wanted judgement old new
-  whole old new left judgement told named kept spares by memory = record {
+      → IsJudged held wanted.allow (map (λ f. end_text [] (outcome_of f)) found.outcomes.items) (exploration_fails wanted.fail_on found) judgement → (judgement ≡ Allowed → found.extent ≢ extent.OutOfMemory) → EndsJudged wanted.first judgement found → IsExplorationTold held left wanted judgement old new
+  whole old new left judgement told named kept spares by memory ends = record {
     image = image;
     symbols = symbols;
     exploration = found;
@@ -93,6 +94,7 @@ module _ (held : Contents) (wanted : Explore) (config : Config) (image : Initial
     spared = spares;
     judged = by;
     whole = memory;
+    ends = ends;
   }
 
   pub refusals : (old new : Option (List ℕ)) (P : List ℕ → Type 0) → Appends old new (exploration_text [] symbols found) → HaveRefusals held wanted.allow (map (λ f. end_text [] (outcome_of f)) found.outcomes.items) (exploration_fails wanted.fail_on found) P

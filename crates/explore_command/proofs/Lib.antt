@@ -10,3 +10,4 @@ mod Remarked
 mod Readable
 mod Searched
 pub mod NeverStops
+pub mod Sought

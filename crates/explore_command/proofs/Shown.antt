@@ -16,6 +16,8 @@ use Rattle.explore_command.proofs.Explored.{judged}
 use Rattle.command_files.specs.Allowing.{IsAllowFile}
 use Rattle.explore_command.specs.Exploring.{IsExploreFault, IsFoundIn, exploration_fails}
 use Rattle.explore_command.proofs.Refused.{refusals_in}
+use Rattle.explore_command.proofs.Sought.{ends_judged}
+use Rattle.explore_command.specs.Sought.{EndsBy}
 use Rattle.explore_command.specs.Judging.{HaveRefusals, IsJudged, judgement_of_lines, refusals}
 use Rattle.explore_command.specs.Keeping.{AreKept, HasName, IsInNamed, IsScriptOf, SparesOthers}
 use Rattle.command_files.specs.declared.allowing.Judgement.{Judgement}
@@ -85,9 +87,9 @@ module _ (held : Contents) (show : Show) (config : Config) (image : Initial) (sy
   -- all of it was done
   pub shown : (old new : Option (List ℕ)) (left : Contents) (judgement : Judgement) (text : Option (List ℕ)) → Appends old new (exploration_text names symbols found) → HasName show.explore.scripts → IfSome show.explore.scripts (λ folder. AreKept left config show.explore.machine.memory folder.now found)
       → SparesOthers (IsInNamed show.explore.scripts (IsScriptOf (length found.outcomes.items) (length found.failures.items) found.stuck)) held left → IsAllowFile held show.explore.allow text
-      → judgement ≡ judgement_of_lines text (map (λ f. end_text names (outcome_of f)) found.outcomes.items) (exploration_fails show.explore.fail_on found) → (judgement ≡ Allowed → found.extent ≢ extent.OutOfMemory) → AreWordsShown held left show judgement old new
+      → judgement ≡ judgement_of_lines text (map (λ f. end_text names (outcome_of f)) found.outcomes.items) (exploration_fails show.explore.fail_on found) → (judgement ≡ Allowed → found.extent ≢ extent.OutOfMemory) → EndsBy show.explore.first names text found → AreWordsShown held left show judgement old new
   unfolding of_file
-  shown old new left judgement text printed folder kept spares read by whole = record {
+  shown old new left judgement text printed folder kept spares read by whole ends = record {
     exploration = found;
     of_file = of_file;
     printed = subst (λ (n : List WordName). Appends old new (exploration_text n symbols found)) names_are printed;
@@ -96,6 +98,7 @@ module _ (held : Contents) (show : Show) (config : Config) (image : Initial) (sy
     spared = spares;
     judged = judged_of outcome_of held show.explore.allow text names (names_of show.words.items) found.outcomes.items (exploration_fails show.explore.fail_on found) judgement names_are read by;
     whole = whole;
+    ends = ends_judged names show.explore.first text (exploration_fails show.explore.fail_on found) found judgement by ends;
   }
 
 pub show_told : (held : Contents) (show : Show) (fault : Fault) → IsExploreFault held show.explore fault ⊎ HasUnshown held show.explore show.words.items fault → IsShowFault held show fault

@@ -15,6 +15,7 @@ use Rattle.elf_symbols.specs.Named.{Named}
 use Rattle.exploration_text.specs.Words.{end_text, exploration_text}
 use Rattle.explore_command.specs.Judging.{HaveRefusals, IsJudged, fail_lines, have_failure, is_complete}
 use Rattle.explore_command.specs.Keeping.{AreKept, HasName, IsInNamed, IsScriptOf, SparesOthers}
+use Rattle.explore_command.specs.Sought.{EndsJudged}
 use Rattle.command_files.specs.declared.allowing.Judgement.{Judgement}
 use Rattle.command_files.specs.declared.allowing.Judgement.TheVariants.{Allowed}
 use Rattle.explorer.specs.Ends.{IsRealIn, outcome_of, outcomes_of}
@@ -58,7 +59,7 @@ pub record IsFoundIn (image : Initial) (config : Config) (addresses : List ℕ) 
   pub failures_once : AreOnce (failures_of found.failures.items)
   pub each_failure : found.extent ≡ Complete → HasEachFailure image config (failures_of found.failures.items)
 
--- what was found of the image in the file was printed, with the names that the file has, its scripts are in the folder, if one was named, and each other file is as before, and it was judged by the file that says what is allowed; it is allowed only where memory sufficed for all states, or for as many as were asked for
+-- what was found of the image in the file was printed, with the names that the file has, its scripts are in the folder, if one was named, and each other file is as before, and it was judged by the file that says what is allowed; it is allowed only where memory sufficed for all states, or for as many as were asked for; and it ended at the first of what it found only where that was asked for, and it tells what may end it
 pub record IsExplorationTold (held left : Contents) (wanted : Explore) (judgement : Judgement) (old new : Option (List ℕ)) : Type 0 where
   pub image : Initial
   pub symbols : List Named
@@ -72,6 +73,7 @@ pub record IsExplorationTold (held left : Contents) (wanted : Explore) (judgemen
   pub spared : SparesOthers (IsInNamed wanted.scripts (IsScriptOf (length exploration.outcomes.items) (length exploration.failures.items) exploration.stuck)) held left
   pub judged : IsJudged held wanted.allow (map (λ f. end_text [] (outcome_of f)) exploration.outcomes.items) (exploration_fails wanted.fail_on exploration) judgement
   pub whole : judgement ≡ Allowed → exploration.extent ≢ extent.OutOfMemory
+  pub ends : EndsJudged wanted.first judgement exploration
 
 -- P holds of the text of what was found of the image in the file
 pub record ExplorationHas (held : Contents) (wanted : Explore) (P : List ℕ → Type 0) : Type 0 where

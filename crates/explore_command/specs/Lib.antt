@@ -10,3 +10,4 @@ pub mod Searching
 pub mod Telling
 pub mod Passing
 pub mod Sparing
+pub mod Sought

@@ -14,6 +14,7 @@ use Rattle.exploration_text.specs.Words.{end_text, exploration_text}
 use Rattle.explore_command.specs.Exploring.{IsExploreFault, IsFoundIn, exploration_fails}
 use Rattle.explore_command.specs.Judging.{HaveRefusals, IsJudged}
 use Rattle.explore_command.specs.Keeping.{AreKept, HasName, IsInNamed, IsScriptOf, SparesOthers}
+use Rattle.explore_command.specs.Sought.{EndsJudged}
 use Rattle.command_files.specs.declared.allowing.Judgement.{Judgement}
 use Rattle.command_files.specs.declared.allowing.Judgement.TheVariants.{Allowed}
 use Rattle.explore_command.specs.Asking.{HasProgram, HasUnshown}
@@ -32,7 +33,7 @@ pub record IsOfFile (held : Contents) (show : Show) (exploration : Exploration) 
   pub inside : IsInside show.explore.machine
   pub found : IsFoundIn image (config_named show.explore.machine inside) addresses show.explore.states exploration
 
--- what was found was printed, its scripts are in the folder, if one was named, and each other file is as before, and it was judged by the file that says what is allowed; it is allowed only where memory sufficed for all states, or for as many as were asked for
+-- what was found was printed, its scripts are in the folder, if one was named, and each other file is as before, and it was judged by the file that says what is allowed; it is allowed only where memory sufficed for all states, or for as many as were asked for; and it ended at the first of what it found only where that was asked for, and it tells what may end it
 pub record AreWordsShown (held left : Contents) (show : Show) (judgement : Judgement) (old new : Option (List ℕ)) : Type 0 where
   pub exploration : Exploration
   pub of_file : IsOfFile held show exploration
@@ -42,6 +43,7 @@ pub record AreWordsShown (held left : Contents) (show : Show) (judgement : Judge
   pub spared : SparesOthers (IsInNamed show.explore.scripts (IsScriptOf (length exploration.outcomes.items) (length exploration.failures.items) exploration.stuck)) held left
   pub judged : IsJudged held show.explore.allow (map (λ f. end_text (names_of show.words.items) (outcome_of f)) exploration.outcomes.items) (exploration_fails show.explore.fail_on exploration) judgement
   pub whole : judgement ≡ Allowed → exploration.extent ≢ extent.OutOfMemory
+  pub ends : EndsJudged show.explore.first judgement exploration
 
 -- P holds of the text of what was found
 pub record WordsHave (held : Contents) (show : Show) (P : List ℕ → Type 0) : Type 0 where

@@ -1,10 +1,11 @@
 //! `rvtl explore`: every end that the machine can bring a program to is found, told, judged and kept.
 
-ghost use Rattle.std.specs.Prelude.{◌≡◌, ◌⊎◌, ◌<◌, [], Err, IfErr, IfOk, OnErr};
+ghost use Rattle.std.specs.Prelude.{◌≡◌, ◌⊎◌, ◌<◌, [], Err, IfErr, IfOk, OnErr, option_map};
 ghost use Rattle.command_files.specs.Sizes.{IsOutside};
 ghost use Rattle.explore_command.specs.Exploring.{ComesBeforeScripts, ExplorationHas, ExplorationRefusals, IsExploreFault, IsExplorationTold, IsFoundIn, LeavesPart};
 ghost use Rattle.explore_command.specs.Judging.{IsToldBy};
 ghost use Rattle.explore_command.specs.Keeping.{IsScriptFile, SparesOthers};
+ghost use Rattle.explore_command.specs.Sought.{EndsBy};
 ghost use Rattle.text_fields.specs.Writing.{Begins};
 
 use crate::asked::Asked;
@@ -12,6 +13,7 @@ use crate::exploration::Explored;
 use crate::findings::print;
 use crate::judging::judge;
 use crate::keeping::keep;
+use crate::seeking::First;
 use command_files::{Fault, Files, Judgement};
 use command_settings::Explore;
 use explorer::{Exploration, Exploring, explore};
@@ -72,7 +74,8 @@ pub fn explore_files<'a, F: Files, O: Write, E: Write, P: Progress>(
     judgement
 }
 
-/// The ends that the machine can bring a program to. While it explores, `progress` is told how far it is.
+/// The ends that the machine can bring a program to, or the first that is sought. While it explores, `progress` is told how
+/// far it is.
 fn found_in<P: Progress>(
     alloc: Global,
     asked: &Asked,
@@ -80,14 +83,24 @@ fn found_in<P: Progress>(
     progress: &P,
 ) -> Result<Exploration, AllocError>
     requires room { 0 < wanted.states }
-    ensures { IfOk result (IsFoundIn asked.now.image asked.now.config [] wanted.entry.states) }
+    ensures found { IfOk result (IsFoundIn asked.now.image asked.now.config [] wanted.entry.states) }
+    ensures ends { IfOk result (EndsBy wanted.entry.first [] (option_map (λ bytes. bytes.items) asked.now.allowed)) }
 {
     let watch = Telling { progress };
     let exploring = Exploring {
         limit: wanted.states,
         shortened: wanted.shortens(),
     };
-    let found = explore(alloc, &asked.image, asked.config, &[], exploring, &watch);
+    let seek = First::new(alloc, wanted.first, &[], &asked.allowed)?;
+    let found = explore(
+        alloc,
+        &asked.image,
+        asked.config,
+        &[],
+        exploring,
+        &watch,
+        &seek,
+    );
     progress.end();
     found
 }

@@ -11,6 +11,7 @@ mod judging;
 mod keeping;
 mod laws;
 mod sample;
+mod seeking;
 mod show;
 mod sparing;
 

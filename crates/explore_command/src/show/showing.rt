@@ -1,13 +1,14 @@
 //! `rvtl explore --show`: every end that the machine can bring a program to is found with words of memory, told,
 //! judged and kept.
 
-ghost use Rattle.std.specs.Prelude.{◌≡◌, ◌⊎◌, ◌<◌, Err, IfErr, IfOk, IfSome, IsNone, OnErr};
+ghost use Rattle.std.specs.Prelude.{◌≡◌, ◌⊎◌, ◌<◌, Err, IfErr, IfOk, IfSome, IsNone, OnErr, option_map};
 ghost use Rattle.command_files.specs.Faults.{Name};
 ghost use Rattle.command_files.specs.Sizes.{IsOutside};
 ghost use Rattle.explore_command.specs.Exploring.{ComesBeforeScripts, IsFoundIn, LeavesPart};
 ghost use Rattle.explore_command.specs.Judging.{IsToldBy};
 ghost use Rattle.explore_command.specs.Keeping.{IsScriptFile, SparesOthers};
 ghost use Rattle.explore_command.specs.Showing.{IsElsewhere, IsFirstOf, IsShowFault, AreWordsShown, WordRefusals, WordsHave};
+ghost use Rattle.explore_command.specs.Sought.{EndsBy};
 ghost use Rattle.explorer.specs.Words.{CanShowEach};
 ghost use Rattle.text_fields.specs.Writing.{Begins};
 
@@ -15,13 +16,12 @@ use crate::exploring::Telling;
 use crate::findings::print;
 use crate::judging::judge;
 use crate::keeping::keep;
+use crate::seeking::First;
 use crate::show::asked::AskedWords;
 use crate::show::words::Shown;
 use command_files::{Fault, Files, Judgement, Unshown};
 use command_settings::{Explore, Show};
-use elf_loader::Image;
 use explorer::{Exploration, Exploring, explore};
-use machine_types::Config;
 use progress_line::Progress;
 use std::alloc::{AllocError, Global};
 use std::io::Write;
@@ -56,17 +56,17 @@ pub fn show_files<'a, F: Files, O: Write, E: Write, P: Progress>(
         let cause = Unshown::Elsewhere;
         return Err(Fault::CannotShow { word, cause });
     }
+    let words = AskedWords::read(alloc, files, asked, &wanted.words)?;
+    let Ok(exploration) = found_in(alloc, &words, asked, progress) else {
+        return Err(Fault::OutOfMemory);
+    };
     let AskedWords {
         config,
-        image,
         symbols,
         allowed,
         targets,
-    } = AskedWords::read(alloc, files, asked, &wanted.words)?;
-    let Ok(exploration) = found_in(alloc, &image, config, &targets.addresses, asked, progress)
-    else {
-        return Err(Fault::OutOfMemory);
-    };
+        ..
+    } = words;
     let found = Shown {
         names: targets.names,
         symbols,
@@ -78,26 +78,35 @@ pub fn show_files<'a, F: Files, O: Write, E: Write, P: Progress>(
     judgement
 }
 
-/// The ends that the machine can bring a program to, with these words of memory. While it explores, `progress` is told
-/// how far it is.
+/// The ends that the machine can bring a program to, with the words of memory that are asked for, or the first that is
+/// sought. While it explores, `progress` is told how far it is.
 fn found_in<P: Progress>(
     alloc: Global,
-    image: &Image,
-    config: Config,
-    addresses: &[u32],
+    asked: &AskedWords<'_>,
     wanted: Explore<'_>,
     progress: &P,
 ) -> Result<Exploration, AllocError>
     requires room { 0 < wanted.states }
-    requires words { CanShowEach image.now addresses.now }
-    ensures { IfOk result (IsFoundIn image.now config addresses.now wanted.entry.states) }
+    requires words { CanShowEach asked.now.image asked.now.targets.addresses.items }
+    ensures found { IfOk result (IsFoundIn asked.now.image asked.now.config asked.now.targets.addresses.items wanted.entry.states) }
+    ensures ends { IfOk result (EndsBy wanted.entry.first asked.now.targets.names.items (option_map (λ bytes. bytes.items) asked.now.allowed)) }
 {
     let watch = Telling { progress };
     let exploring = Exploring {
         limit: wanted.states,
         shortened: wanted.shortens(),
     };
-    let found = explore(alloc, image, config, addresses, exploring, &watch);
+    let seek = First::new(alloc, wanted.first, &asked.targets.names, &asked.allowed)?;
+    let addresses = &asked.targets.addresses;
+    let found = explore(
+        alloc,
+        &asked.image,
+        asked.config,
+        addresses,
+        exploring,
+        &watch,
+        &seek,
+    );
     progress.end();
     found
 }

@@ -15,5 +15,5 @@ returns-in_ok-extend_from_slice-in-OutOfMemory c =
 
 pub returns-in_ok-extend_from_slice-in-Ended : goal.returns-in_ok-extend_from_slice-in-Ended
 returns-in_ok-extend_from_slice-in-Ended c =
-    joined _ _ _ _ _ _ _ c.in_ok-spell_ending.ensures c.in_ok-spell_number-in-Ended.ensures c.in_ok-extend_from_slice-in-Ended.ensures.items
+    joined _ _ _ _ _ _ _ c.in_ok-spell_ending-in-Ended.ensures c.in_ok-spell_number-in-Ended.ensures c.in_ok-extend_from_slice-in-Ended.ensures.items
     ∙ ap (λ (e : Extent). c.args.into.now.items ++ last_line e c.args.outcomes c.args.failures c.args.states) (sym c.in-Ended.is)

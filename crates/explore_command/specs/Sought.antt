@@ -1,0 +1,34 @@
+-- What an exploration that is to end at the first of what it finds seeks, and what it says where it ended so.
+use Rattle.std.specs.Prelude.{ℕ, ◌≡◌, ◌≢◌, ◌⊎◌, ◌<◌, Bool, true, false, List, Option, None, Some, Contains, length}
+use Rattle.allowed_outcomes.specs.Allowing.{is_allowed_line, without_number}
+use Rattle.allowed_outcomes.specs.Known.{allows_line}
+use Rattle.allowed_outcomes.specs.declared.allowing.Allowed.{Allowed}
+use Rattle.exploration_text.specs.Words.{end_text}
+use Rattle.exploration_text.specs.declared.wording.WordName.{WordName}
+use Rattle.command_files.specs.declared.allowing.Judgement.{Judgement}
+use Rattle.command_files.specs.declared.allowing.Judgement.TheVariants.{NotAllowed}
+use Rattle.explorer.specs.Ends.{outcomes_of}
+use Rattle.explorer.specs.FlatExplorationOutcomes.{Outcome}
+use Rattle.explorer.specs.declared.exploration.Exploration.{Exploration}
+use Rattle.state_search.specs.declared.findings.Extent.TheVariants.{Ended}
+use Rattle.state_search.specs.declared.until.Ending.TheVariants.{First, Time}
+
+-- there is a text, and it doesn't allow the line
+abbrev pub IsRefused : (text : Option (List ℕ)) → (line : List ℕ) → Type 0
+IsRefused None line = ⊥
+IsRefused (Some text) line = is_allowed_line text (without_number line) ≡ false
+
+-- and so of the text as it was read
+abbrev pub IsRefusedBy : Option Allowed → (line : List ℕ) → Type 0
+IsRefusedBy None line = ⊥
+IsRefusedBy (Some allowed) line = allows_line allowed (without_number line) ≡ false
+
+-- it ended at the first only where that was asked for, and it tells a hart that stops, or an outcome that the text doesn't allow, where the words are called so; and it ended at no time
+pub record EndsBy (is_asked : Bool) (names : List WordName) (text : Option (List ℕ)) (found : Exploration) : Type 0 where
+  pub first : found.extent ≡ Ended First → (is_asked ≡ true) × ((0 < length found.failures.items) ⊎ ((o : Outcome) × Contains (outcomes_of found.outcomes.items) o × IsRefused text (end_text names o)))
+  pub untimed : found.extent ≢ Ended Time
+
+-- and so of what was judged: it tells a hart that stops, or the judgement is that not all are allowed
+pub record EndsJudged (is_asked : Bool) (judgement : Judgement) (found : Exploration) : Type 0 where
+  pub first : found.extent ≡ Ended First → (is_asked ≡ true) × ((0 < length found.failures.items) ⊎ (judgement ≡ NotAllowed))
+  pub untimed : found.extent ≢ Ended Time

@@ -1,0 +1,76 @@
+//! What an exploration that is to end at the first of what it finds seeks.
+
+ghost use Rattle.std.specs.Prelude.{◌≡◌, IfOk, List, option_map, true, ℕ};
+ghost use Rattle.exploration_text.specs.Words.{end_text};
+ghost use Rattle.explore_command.specs.Sought.{IsRefused, IsRefusedBy};
+
+use allowed_outcomes::{Allowed, without_number};
+use exploration_text::{WordName, end_text};
+use explorer::{Outcome, Seek};
+use std::alloc::{AllocError, Global};
+
+/// Seeks a hart that stops, and an outcome that a text doesn't allow, where it is asked to.
+#[derive(Drop)]
+pub(crate) struct First<'f, 'w> {
+    alloc: Global,
+    is_asked: bool,
+    /// What lines call the words that are shown.
+    names: &'f [WordName<'w>],
+    /// What the text allows, where there is one.
+    allowed: Option<Allowed<'f>>,
+}
+
+impl<'f, 'w> First<'f, 'w> {
+    pub(crate) fn new(
+        alloc: Global,
+        is_asked: bool,
+        names: &'f [WordName<'w>],
+        text: &'f Option<Vec<u8>>,
+    ) -> Result<First<'f, 'w>, AllocError>
+        ensures asked { IfOk result (λ first. first.is_asked ≡ is_asked) }
+        ensures names { IfOk result (λ first. first.names.now ≡ names.now) }
+        ensures refuses { IfOk result (λ first. (line : List ℕ) → IsRefusedBy first.allowed line → IsRefused (option_map (λ bytes. bytes.items) text.now) line) }
+    {
+        let allowed = match text {
+            Some(text) if is_asked => Some(Allowed::new(alloc, text)?),
+            _ => None,
+        };
+        Ok(First {
+            alloc,
+            is_asked,
+            names,
+            allowed,
+        })
+    }
+}
+
+impl Seek for First<'_, '_> {
+    ghost SeeksStops = { λ first. first.is_asked ≡ true };
+
+    ghost IsSought = { λ first outcome. (first.is_asked ≡ true) × IsRefusedBy first.allowed (end_text first.names.now outcome) };
+
+    ghost IsTimed = { λ first. ⊥ };
+
+    fn seeks_stops(&self) -> bool {
+        self.is_asked
+    }
+
+    fn seeks_outcomes(&self) -> bool {
+        self.is_asked && self.allowed.is_some()
+    }
+
+    fn seeks(&self, outcome: &Outcome) -> Result<bool, AllocError> {
+        match &self.allowed {
+            Some(allowed) if self.is_asked => {
+                let harts = outcome.results().harts();
+                let line = end_text(self.alloc, self.names, harts, outcome.words())?;
+                Ok(!allowed.has(without_number(&line)))
+            }
+            _ => Ok(false),
+        }
+    }
+
+    fn is_late(&self) -> bool {
+        false
+    }
+}
