@@ -8,7 +8,7 @@ use Rattle.fence_audit.proofs.searches.explore.Goals as goal
 pub patched-requires : goal.patched-requires
 patched-requires g c =
     let image = c.args.question.image.now in
-    All-weaker (IsPatchOf image) (λ (p : Patch). HasWord image p.address) (λ p is. is.place) c.args.patches.now c.requires.of_image
+    record { inside = All-weaker (IsPatchOf image) (λ (p : Patch). HasWord image p.address) (λ p is. is.place) c.args.patches.now c.requires.of_image }
 
 pub explore_architecture-requires : goal.explore_architecture-requires
 explore_architecture-requires g c = record {
