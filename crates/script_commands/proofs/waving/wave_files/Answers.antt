@@ -35,7 +35,7 @@ returns-in-Err-clause-unfinished g c =
     waves_left _ c.args.wanted c.in_ok-script.script c.in_ok-image.image _ _ c.in_ok-script.ensures.script
     (subst (λ (held : Contents). HoldsImage held c.args.wanted.raw c.args.wanted.image.now c.in_ok-script.script.kib c.in_ok-image.image) c.in_ok-script.ensures.stays c.in_ok-image.ensures.image)
     c.in-Err.error _
-    (at_script (λ config events. AreUnfinished c.in_ok-image.image config events _ _ c.in-Err.error) _ _ _ _ c.config_of-config.ensures c.as_slice-events.ensures c.in-Err.ensures.unfinished)
+    (at_script (λ config events. AreUnfinished c.in_ok-image.image config events (g.O.Write.contents c.args.out.now) (g.O.Write.contents c.write_waves-written.new.out) c.in-Err.error) _ _ _ _ c.config_of-config.ensures c.as_slice-events.ensures c.in-Err.ensures.unfinished)
     c.fault_of-fault.ensures
 
 pub returns-in-Err-clause-told : goal.returns-in-Err-clause-told
@@ -43,7 +43,7 @@ returns-in-Err-clause-told g c =
     waves_told _ c.args.wanted c.in_ok-script.script c.in_ok-image.image _ _ c.in_ok-script.ensures.script
     (subst (λ (held : Contents). HoldsImage held c.args.wanted.raw c.args.wanted.image.now c.in_ok-script.script.kib c.in_ok-image.image) c.in_ok-script.ensures.stays c.in_ok-image.ensures.image)
     c.in-Err.error _
-    (at_script (λ config events. AreUnfinished c.in_ok-image.image config events _ _ c.in-Err.error) _ _ _ _ c.config_of-config.ensures c.as_slice-events.ensures c.in-Err.ensures.unfinished)
+    (at_script (λ config events. AreUnfinished c.in_ok-image.image config events (g.O.Write.contents c.args.out.now) (g.O.Write.contents c.write_waves-written.new.out) c.in-Err.error) _ _ _ _ c.config_of-config.ensures c.as_slice-events.ensures c.in-Err.ensures.unfinished)
     c.fault_of-fault.ensures
 
 pub returns-in-Ok-clause-waves : goal.returns-in-Ok-clause-waves
@@ -56,7 +56,7 @@ returns-in-Ok-clause-waves g c = record {
       c.in_ok-script.ensures.stays c.in_ok-image.ensures.image;
   only = c.in_ok-script.ensures.only;
   written =
-      at_script (λ config events. AreWritten c.in_ok-image.image config events _ _) _ _ _ _ c.config_of-config.ensures c.as_slice-events.ensures
+      at_script (λ config events. AreWritten c.in_ok-image.image config events (g.O.Write.contents c.args.out.now) (g.O.Write.contents c.flush.new.self)) _ _ _ _ c.config_of-config.ensures c.as_slice-events.ensures
       (written_on _ _ _ _ _ _ c.flush.ensures.bytes c.in_default.ensures.written);
 }
 
@@ -65,7 +65,7 @@ returns-clause-unfinished g c =
     spoiled _ _ _ _ c.writing.ensures.told
     (waves_stopped _ c.args.wanted c.in_ok-script.script c.in_ok-image.image _ _ c.in_ok-script.ensures.script
     (subst (λ (held : Contents). HoldsImage held c.args.wanted.raw c.args.wanted.image.now c.in_ok-script.script.kib c.in_ok-image.image) c.in_ok-script.ensures.stays c.in_ok-image.ensures.image)
-    (at_script (λ config events. AreBegun c.in_ok-image.image config events _ _) _ _ _ _ c.config_of-config.ensures c.as_slice-events.ensures
+    (at_script (λ config events. AreBegun c.in_ok-image.image config events (g.O.Write.contents c.args.out.now) (g.O.Write.contents c.flush.new.self)) _ _ _ _ c.config_of-config.ensures c.as_slice-events.ensures
     (written_begun _ _ _ _ _ _ c.flush.ensures.bytes c.in_default.ensures.written)))
 
 pub returns-clause-told : goal.returns-clause-told
