@@ -23,7 +23,8 @@ use Rattle.fence_audit.specs.declared.auditing.Parts.{Parts}
 use Rattle.machine_types.specs.declared.config.Config.{Config}
 use Rattle.fence_audit.specs.declared.answers.Answer.TheVariants.{Bounded, Fewer, Other, Same}
 use Rattle.fence_audit.specs.declared.searches.Search.{Search}
-use Rattle.image_orderings.specs.Forms.{weaker_words}
+use Rattle.image_orderings.proofs.Variants.{variant_of_variant}
+use Rattle.image_orderings.specs.Forms.{IsVariant, weaker_words}
 use Rattle.image_orderings.specs.Programs.{patches_with, patches_without}
 use Rattle.image_orderings.specs.Replaced.{addresses_of}
 use Rattle.image_orderings.specs.declared.orderings.ImageOrdering.{ImageOrdering}
@@ -175,6 +176,10 @@ pub fence_weighed : (image : Initial) (searches : List Search) (own : List Patch
 fence_weighed image searches own o word is at all =
     inr (subst (λ (p : Part). AreWeighedBy p searches own o.address (word_at image o.address)) (sym is) (subst (λ w. All (IsWeighed searches own o.address) (weaker_words w)) at all))
 
+-- words in place of one that differs from the image's at most in what it orders
+pub variants_of : (image : Initial) (address word : ℕ) (words : List ℕ) → IsVariant (word_at image address) word → All (IsVariant word) words → All (IsVariant (word_at image address)) words
+variants_of image address word words first all = All-weaker (IsVariant word) (IsVariant (word_at image address)) (λ w is. variant_of_variant (word_at image address) word w first is) words all
+
 -- what a call's success says
 pub ok_more : {T : Type 0} (P Q : Type 0) (r : Result T AllocError) → (P → Q) → OnOk r P → OnOk r Q
 ok_more P Q (Ok done) f so = f so
@@ -194,29 +199,29 @@ reduction asking orderings own last last' first second third all alone one weigh
 
 -- what is enough, and what isn't
 pub same_of : (answer : Answer) (b : Bool) → b ≡ is_enough answer → b ≡ true → answer ≡ Same
-same_of Same b is yes = refl
-same_of (Other place) b is yes = absurd (false≢true (sym is ∙ yes))
-same_of (Fewer place) b is yes = absurd (false≢true (sym is ∙ yes))
-same_of Bounded b is yes = absurd (false≢true (sym is ∙ yes))
+same_of Same b is so = refl
+same_of (Other place) b is so = absurd (false≢true (sym is ∙ so))
+same_of (Fewer place) b is so = absurd (false≢true (sym is ∙ so))
+same_of Bounded b is so = absurd (false≢true (sym is ∙ so))
 
 pub not_enough : (searches : List Search) (patches : List Patch) (answer : Answer) (b : Bool) → answer_in searches patches ≡ Some answer → b ≡ is_enough answer → b ≡ false
     → answer_in searches patches ≡ Some Same → ⊥
-not_enough searches patches Same b asked is no same = false≢true (sym no ∙ is)
-not_enough searches patches (Other place) b asked is no same =
+not_enough searches patches Same b asked is other same = false≢true (sym other ∙ is)
+not_enough searches patches (Other place) b asked is other same =
     let bad : Some (Other place) ≡ Some Same = sym asked ∙ same in cc
-not_enough searches patches (Fewer place) b asked is no same =
+not_enough searches patches (Fewer place) b asked is other same =
     let bad : Some (Fewer place) ≡ Some Same = sym asked ∙ same in cc
-not_enough searches patches Bounded b asked is no same =
+not_enough searches patches Bounded b asked is other same =
     let bad : Some Bounded ≡ Some Same = sym asked ∙ same in cc
 
 -- where all that may be ordered is not enough
 pub not_added : (asking : Asking) (own most last : List Patch) (searches : List Search) (answer : Answer) (b : Bool) → answer_in searches most ≡ Some answer → b ≡ is_enough answer → b ≡ false
     → last ≡ most → AreSearched asking searches → IsAddition asking own most searches last
-not_added asking own most last searches answer b asked is no as_it_was searched = record {
+not_added asking own most last searches answer b asked is other as_it_was searched = record {
   searched = searched;
   asked = answered searches most answer asked;
   enough = enough_first most searches last as_it_was;
-  each = λ same. absurd (not_enough searches most answer b asked is no same);
+  each = λ same. absurd (not_enough searches most answer b asked is other same);
 }
 
 -- the searches of programs with more orderings: all of them, which is enough, and then fewer
@@ -228,6 +233,11 @@ addition asking own most last first all same grown enough each searched = record
   enough = enough;
   each = λ is. each;
 }
+
+-- the same of equal lists
+pub addition_of : (asking : Asking) (own own' most most' last : List Patch) (searches : List Search) → own ≡ own' → most ≡ most' → IsAddition asking own most searches last → IsAddition asking own' most' searches last
+addition_of asking own own' most most' last searches e f is =
+    subst (λ (ps : List Patch). IsAddition asking own' ps searches last) f (subst (λ (ps : List Patch). IsAddition asking ps most searches last) e is)
 
 -- ---- an audit
 

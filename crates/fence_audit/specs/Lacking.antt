@@ -1,6 +1,7 @@
 -- The lines in which is told what a program lacks that has outcomes that aren't allowed.
 use Rattle.std.specs.Prelude.{ℕ, ◌+◌, ◌==◌, ◌∷◌, ◌++◌, ◌||◌, [], Bool, List, None, Option, Some, codes, false, if◌then◌else◌, length, not, slice_get}
 use Rattle.std.specs.List.{list_all}
+use Rattle.architecture_outcomes.specs.Reach.{Reach}
 use Rattle.elf_symbols.specs.Lookups.{nearest}
 use Rattle.elf_symbols.specs.Named.{Named}
 use Rattle.exploration_text.specs.declared.wording.WordName.{WordName}
@@ -50,21 +51,27 @@ missing_head minimal = codes "missing" ++ (minimal_text minimal ++ codes ": ")
 abbrev pub new_text : Option ℕ → List ℕ
 new_text w = codes " -> " ++ (word_text w ++ codes "\n")
 
+abbrev pub change_line : List Named → (minimal : Bool) → List Patch → Patch → List ℕ
+change_line symbols minimal last own = missing_head minimal ++ (place_text symbols own ++ new_text (word_in last own.address))
+
+-- nothing where its own word stands there
 abbrev pub change_text : List Named → (minimal : Bool) → List Patch → Patch → List ℕ
-change_text symbols minimal last own = missing_head minimal ++ (place_text symbols own ++ new_text (word_in last own.address))
+change_text symbols minimal last own = if is_changed last own then change_line symbols minimal last own else []
 
 abbrev pub changes_text : List Named → (minimal : Bool) → List Patch → List Patch → List ℕ
 changes_text symbols minimal last [] = []
-changes_text symbols minimal last (own ∷ rest) =
-    if is_changed last own then change_text symbols minimal last own ++ changes_text symbols minimal last rest else changes_text symbols minimal last rest
+changes_text symbols minimal last (own ∷ rest) = change_text symbols minimal last own ++ changes_text symbols minimal last rest
 
 -- ---- what comes of all that the program may order
+
+abbrev pub open_text : Reach → (window : ℕ) → List ℕ
+open_text reach window = codes "undecided, all that may order" ++ (bound_text reach window ++ codes "\n")
 
 abbrev pub answer_text : List WordName → List Named → Missing → Search → Answer → List ℕ
 answer_text names symbols m search answer.Same = changes_text symbols (is_minimal m) m.last.items m.own.items
 answer_text names symbols m search (answer.Other place) = codes "not enough, all that may order:" ++ (end_at names (slice_get search.found.outcomes.items place) ++ codes "\n")
 answer_text names symbols m search (answer.Fewer place) = []
-answer_text names symbols m search answer.Bounded = codes "undecided, all that may order" ++ (bound_text search.found.reach search.found.window ++ codes "\n")
+answer_text names symbols m search answer.Bounded = open_text search.found.reach search.found.window
 
 abbrev pub found_text : List WordName → List Named → Missing → Option Search → List ℕ
 found_text names symbols m None = []

@@ -2,7 +2,6 @@
 use Rattle.std.specs.Prelude.{ℕ, ◌+◌, ◌==◌, ◌∷◌, ◌++◌, ◌||◌, [], Bool, List, None, Option, Some, codes, decimal, false, if◌then◌else◌, length, not, slice_get, true}
 use Rattle.std.specs.List.{list_all, list_any}
 use Rattle.architecture_outcomes.specs.Outcomes.{end_of}
-use Rattle.architecture_outcomes.specs.declared.architecture.Architecture.{Architecture}
 use Rattle.architecture_outcomes.specs.declared.outcome.Outcome.{Outcome}
 use Rattle.assembly.specs.Assembly.{assembly}
 use Rattle.elf_symbols.specs.Lookups.{nearest}

@@ -68,7 +68,7 @@ pub(crate) fn answer_of(
     standard: Standard<'_>,
     found: &Architecture,
 ) -> Result<Answer, AllocError>
-    ensures { IfOk result (λ answer. answer ≡ spec.answer_of standard found.now) }
+    ensures { IfOk result (λ answer. answer ≡ spec.answer_of standard.entry found.now) }
 {
     match standard {
         Standard::AsItIs(known) => Ok(answer_as(known, found)),

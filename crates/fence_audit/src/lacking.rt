@@ -3,15 +3,15 @@ ghost use Rattle.std.specs.Prelude.{◌≡◌, ◌++◌, IfOk, OnOk, option_map}
 ghost use Rattle.fence_audit.specs.Lacking as text;
 
 use crate::spelling::{
-    answer_in, spell_at, spell_bound, spell_counted, spell_minimal, spell_outcomes, spell_symbol,
-    spell_word,
+    answer_in, spell_address, spell_at, spell_bound, spell_counted, spell_minimal, spell_outcomes,
+    spell_symbol, spell_text, spell_word,
 };
 use crate::{Answer, Missing, Search, search_in};
+use architecture_outcomes::window_search::Reach;
 use elf_symbols::Symbols;
 use exploration_text::WordName;
 use image_orderings::{NOP, Patch, patches_with, word_in};
 use std::alloc::{AllocError, Global};
-use text_fields::word_text;
 
 /// The lines that tell what a program lacks, where words of memory are called so, and instructions lie at these symbols.
 pub fn lacking_text(
@@ -79,13 +79,17 @@ fn spell_answer(
             )
         }
         Answer::Fewer(_) => Ok(()),
-        Answer::Bounded => {
-            into.extend_from_slice(b"undecided, all that may order")?;
-            spell_bound(into, search.found.reach, search.found.window)?;
-            into.extend_from_slice(b"\n")?;
-            Ok(())
-        }
+        Answer::Bounded => spell_open(into, search.found.reach, search.found.window),
     }
+}
+
+fn spell_open(into: &mut Vec<u8>, reach: Reach, window: u32) -> Result<(), AllocError>
+    ensures { OnOk result (into.new.items ≡ into.old.items ++ text.open_text reach window) }
+{
+    into.extend_from_slice(b"undecided, all that may order")?;
+    spell_bound(into, reach, window)?;
+    into.extend_from_slice(b"\n")?;
+    Ok(())
 }
 
 fn spell_changes(
@@ -99,12 +103,25 @@ fn spell_changes(
     let is_minimal = is_minimal(alloc, missing)?;
     let mut rest = missing.own.as_slice();
     while let [first, tail @ ..] = rest {
-        if is_changed(&missing.last, *first) {
-            spell_change(into, symbols, is_minimal, &missing.last, *first)?;
-        }
+        spell_if_changed(into, symbols, is_minimal, missing, *first)?;
         rest = tail;
     }
     Ok(())
+}
+
+fn spell_if_changed(
+    into: &mut Vec<u8>,
+    symbols: &Symbols,
+    is_minimal: bool,
+    missing: &Missing,
+    own: Patch,
+) -> Result<(), AllocError>
+    ensures { OnOk result (into.new.items ≡ into.old.items ++ text.change_text symbols.now is_minimal missing.now.last.items own) }
+{
+    if !is_changed(&missing.last, own) {
+        return Ok(());
+    }
+    spell_change(into, symbols, is_minimal, &missing.last, own)
 }
 
 /// Whether another word stands there.
@@ -124,11 +141,12 @@ fn spell_change(
     last: &[Patch],
     own: Patch,
 ) -> Result<(), AllocError>
-    ensures { OnOk result (into.new.items ≡ into.old.items ++ text.change_text symbols.now is_minimal last.now own) }
+    ensures { OnOk result (into.new.items ≡ into.old.items ++ text.change_line symbols.now is_minimal last.now own) }
 {
     spell_missing(into, is_minimal)?;
     spell_place(into, symbols, own)?;
-    spell_new(into, word_in(last, own.address))
+    spell_new(into, word_in(last, own.address))?;
+    Ok(())
 }
 
 fn spell_missing(into: &mut Vec<u8>, is_minimal: bool) -> Result<(), AllocError>
@@ -153,10 +171,11 @@ fn spell_new(into: &mut Vec<u8>, word: Option<u32>) -> Result<(), AllocError>
 fn spell_place(into: &mut Vec<u8>, symbols: &Symbols, own: Patch) -> Result<(), AllocError>
     ensures { OnOk result (into.new.items ≡ into.old.items ++ text.place_text symbols.now own) }
 {
-    into.extend_from_slice(&word_text(own.address))?;
-    into.extend_from_slice(b" ")?;
+    spell_address(into, own.address)?;
+    spell_text(into, b" ")?;
     spell_symbol(into, symbols, own.address)?;
-    spell_own(into, own.word)
+    spell_own(into, own.word)?;
+    Ok(())
 }
 
 /// The instruction as an assembler writes it, where it is no `nop`.
@@ -203,5 +222,6 @@ fn spell_counts(into: &mut Vec<u8>, missing: &Missing) -> Result<(), AllocError>
     into.extend_from_slice(b"searched: ")?;
     spell_counted(into, missing.own.len(), b" places, ")?;
     spell_counted(into, missing.searches.len() + 1, b" programs, ")?;
-    spell_outcomes(into, missing.known.outcomes.len())
+    spell_outcomes(into, missing.known.outcomes.len())?;
+    Ok(())
 }

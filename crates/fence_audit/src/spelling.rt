@@ -94,7 +94,8 @@ fn spell_counts(into: &mut Vec<u8>, audit: &Audit) -> Result<(), AllocError>
     into.extend_from_slice(b"searched: ")?;
     spell_counted(into, audit.orderings.len(), b" orderings, ")?;
     spell_counted(into, audit.searches.len() + 1, b" programs, ")?;
-    spell_outcomes(into, audit.known.outcomes.len())
+    spell_outcomes(into, audit.known.outcomes.len())?;
+    Ok(())
 }
 
 pub(crate) fn spell_outcomes(into: &mut Vec<u8>, outcomes: usize) -> Result<(), AllocError>
@@ -148,7 +149,7 @@ pub(crate) fn spell_bound(into: &mut Vec<u8>, reach: Reach, window: u32) -> Resu
     }
 }
 
-fn spell_text(into: &mut Vec<u8>, what: &[u8]) -> Result<(), AllocError>
+pub(crate) fn spell_text(into: &mut Vec<u8>, what: &[u8]) -> Result<(), AllocError>
     ensures { OnOk result (into.new.items ≡ into.old.items ++ what.now) }
 {
     into.extend_from_slice(what)?;
@@ -261,7 +262,7 @@ fn spell_instr(
     Ok(())
 }
 
-fn spell_address(into: &mut Vec<u8>, address: u32) -> Result<(), AllocError>
+pub(crate) fn spell_address(into: &mut Vec<u8>, address: u32) -> Result<(), AllocError>
     ensures { OnOk result (into.new.items ≡ into.old.items ++ hexadecimal address) }
 {
     into.extend_from_slice(&word_text(address))?;

@@ -12,4 +12,4 @@ returns c =
     joined_more _ _ _ _ _ _ _ _ _ c.in_ok-extend_from_slice.ensures.items
     (c.in_ok-spell_counted.ensures ∙ ap (λ n. c.extend_from_slice.new.self.items ++ counted n (codes " orderings, ")) orderings)
     (c.in_ok-spell_counted-2.ensures ∙ ap (λ n. c.spell_counted.new.into.items ++ counted (n + 1) (codes " programs, ")) searches)
-    (c.spell_outcomes.ensures ∙ ap (λ n. c.spell_counted-2.new.into.items ++ outcomes_text n) outcomes)
+    (c.in_ok-spell_outcomes.ensures ∙ ap (λ n. c.spell_counted-2.new.into.items ++ outcomes_text n) outcomes)

@@ -23,4 +23,4 @@ loop-form-preserved g c =
 pub returns-clause-weighed : goal.returns-clause-weighed
 returns-clause-weighed g c =
     subst (All (IsWeighed c.loop-form.searches.items c.args.own.now c.args.address))
-    (take_all c.loop-form.form-index c.as_slice-form-items.result.now c.loop-form-test.false ∙ (c.as_slice-form-items.ensures.value ∙ c.in_ok-words.ensures)) c.loop-form.invariant.weighed
+    (take_all c.loop-form.form-index c.as_slice-form-items.result.now c.loop-form-test.false ∙ (c.as_slice-form-items.ensures.value ∙ c.in_ok-words.ensures.words)) c.loop-form.invariant.weighed
