@@ -1,6 +1,5 @@
 -- Which faults the command hands up, and what its result says.
-use Rattle.std.proofs.Common.{◌≡◌, ◌∙◌, ◌⊎◌, ℕ, Bool, Err, IfErr, IfOk, List, None, Ok, OnErr, OnOk, Option, Result, Some, [], ap, inl, inr, refl, subst, sym}
-use Rattle.std.specs.Io.KnownBytes.{Appends}
+use Rattle.std.proofs.Common.{◌≡◌, ◌∙◌, ◌⊎◌, ℕ, Bool, Err, IfOk, List, None, Ok, Option, Result, Some, [], ap, inl, inr, subst, sym}
 use Rattle.std.specs.declared.alloc.AllocError.{AllocError}
 use Rattle.command_files.proofs.Left.{spoiled}
 use Rattle.command_files.specs.Contents.{Contents}
@@ -12,11 +11,10 @@ use Rattle.command_settings.specs.declared.wanted.Fences.{Fences}
 use Rattle.elf_loader.specs.Image.{Initial}
 use Rattle.elf_symbols.specs.Named.{Named}
 use Rattle.command_files.specs.Allowing.{IsAllowFile, IsNamedBy}
-use Rattle.exploration_text.specs.declared.wording.WordName.{WordName}
 use Rattle.fence_audit.specs.Adding.{IsAllowance}
 use Rattle.fence_audit.specs.Answers.{answer_within}
 use Rattle.fence_audit.specs.declared.allowing.Allowance.{Allowance}
-use Rattle.fences_command.specs.Fencing.{IsAuditCutOff, IsAuditTold, IsFencesFault, IsOfFile, IsSought, judgement_of, told_text}
+use Rattle.fences_command.specs.Fencing.{IsAuditCutOff, IsFencesFault, IsOfFile, IsSought, told_text}
 use Rattle.machine_types.specs.declared.config.Config.{Config}
 use Rattle.script_commands.specs.Named.{HoldsNamedImage}
 use Rattle.text_fields.specs.Writing.{Begins}
@@ -97,11 +95,10 @@ output_told held fences fault is = elim is [
 ]
 
 -- what is sought of no words of memory
-pub of_allowed : (image : Initial) (config : Config) (addresses : List ℕ) (window limit : ℕ) (names : List WordName) (allows other : List ℕ → Bool) (r : Result Allowance AllocError) → addresses ≡ [] → names ≡ []
-    → ((line : List ℕ) → allows line ≡ other line) → IfOk r (IsAllowance image config addresses window limit (answer_within allows names)) → IfOk r (IsAllowance image config [] window limit (answer_within other []))
-of_allowed image config addresses window limit names allows other (Err error) none nameless same so = tt
-of_allowed image config addresses window limit names allows other (Ok allowance) none nameless same so =
+pub of_allowed : (image : Initial) (config : Config) (addresses : List ℕ) (window limit : ℕ) (allows other : List ℕ → Bool) (r : Result Allowance AllocError) → addresses ≡ []
+    → ((line : List ℕ) → allows line ≡ other line) → IfOk r (IsAllowance image config addresses window limit (answer_within allows [])) → IfOk r (IsAllowance image config [] window limit (answer_within other []))
+of_allowed image config addresses window limit allows other (Err error) none same so = tt
+of_allowed image config addresses window limit allows other (Ok allowance) none same so =
     let all : allows ≡ other = λ i line. same line i in
     subst (λ (f : List ℕ → Bool). IsAllowance image config [] window limit (answer_within f []) allowance) all
-    (subst (λ (ns : List WordName). IsAllowance image config [] window limit (answer_within allows ns) allowance) nameless
-    (subst (λ (places : List ℕ). IsAllowance image config places window limit (answer_within allows names) allowance) none so))
+    (subst (λ (places : List ℕ). IsAllowance image config places window limit (answer_within allows []) allowance) none so)

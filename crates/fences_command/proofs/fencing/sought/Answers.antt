@@ -7,7 +7,7 @@ pub returns-in-Some : goal.returns-in-Some
 returns-in-Some g c =
     let q = c.args.question in
     subst (λ (text : Option (Vec ℕ)). IfOk c.sought_within.result (IsSought q.image.now q.config q.window q.limit (option_map (λ (v : Vec ℕ). v.items) text))) (sym c.in-Some.is)
-    (subst (λ (bytes : List ℕ). IfOk c.sought_within.result (IsSought q.image.now q.config q.window q.limit (Some bytes))) c.deref-in-Some.ensures.value c.sought_within.ensures)
+    (subst (λ (bytes : List ℕ). IfOk c.sought_within.result (IsSought q.image.now q.config q.window q.limit (Some bytes))) c.deref.ensures.value c.sought_within.ensures)
 
 pub returns-in-None : goal.returns-in-None
 returns-in-None g c =

@@ -1,8 +1,7 @@
-use Rattle.std.proofs.Common.{refl}
 use Rattle.fences_command.proofs.Told.{of_allowed}
 use Rattle.fences_command.proofs.fencing.sought_within.Goals as goal
 
 pub returns : goal.returns
 returns g c =
     let q = c.args.question in
-    of_allowed q.image.now q.config q.addresses.now q.window q.limit _ _ _ c.audit_allowed.result c.requires.wordless refl c.in_ok-allowed.ensures c.audit_allowed.ensures
+    of_allowed q.image.now q.config q.addresses.now q.window q.limit _ _ c.audit_allowed.result c.requires.wordless c.in_ok-allowed.ensures c.audit_allowed.ensures
