@@ -1,6 +1,6 @@
 -- Lists read line by line.
-use Rattle.std.proofs.Common.{◌≡◌, ◌∙◌, ℕ, suc, ◌==◌, Bool, true, false, List, [], ◌∷◌, ◌++◌, ap, append_assoc, cond, drop, refl, sym, take}
-use Rattle.std.specs.Prelude.{String, map, reverse, string_bytes}
+use Rattle.std.proofs.Common.{◌≡◌, ◌∙◌, ℕ, suc, ◌==◌, Bool, true, false, List, [], ◌∷◌, ◌++◌, ap, append_assoc, cond, drop, sym, take}
+use Rattle.std.specs.Prelude.{String, reverse, string_bytes}
 use Rattle.std.specs.Global.{Global}
 use Rattle.std.proofs.lemmas.List.{append-nil, map-append, reverse-reverse}
 use Rattle.litmus_command.specs.Listing.{length_before, names_from, names_of_line, texts_of, trimmed}

@@ -1,4 +1,4 @@
-use Rattle.std.proofs.Common.{◌≡◌, Err, IfErr, IfOk, List, Ok, Result, subst, ℕ}
+use Rattle.std.proofs.Common.{Err, IfErr, IfOk, List, Ok, Result, subst, ℕ}
 use Rattle.litmus_command.specs.Answers.{IsSearch}
 use Rattle.litmus_command.specs.Wishes.{wishes}
 use Rattle.litmus_command.proofs.Answering.{stops_so}
