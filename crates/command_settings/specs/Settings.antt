@@ -192,9 +192,9 @@ shortens explore = is_some explore.scripts && not explore.whole
 abbrev pub IsTwofold : Explore → Type 0
 IsTwofold explore = (explore.architecture ≡ true) × (0 < explore.sample)
 
--- random runs of the machine are asked for, and a search to end at the first of what it finds: one of them has to be left out
+-- a search of the machine is to end at the first of what it finds, and random runs are asked for, or what the memory model allows, which is known at the end of its search alone
 abbrev pub IsUnsearched : Explore → Type 0
-IsUnsearched explore = (explore.first ≡ true) × (0 < explore.sample)
+IsUnsearched explore = (explore.first ≡ true) × ((explore.architecture ≡ true) ⊎ (0 < explore.sample))
 
 -- the search is to fail on states from which no schedule ends, which random runs and a search of the memory model don't look for
 abbrev pub IsBlind : Explore → Type 0

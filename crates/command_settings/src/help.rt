@@ -150,8 +150,8 @@ no store waits:
 With --scripts, events that an outcome doesn't need are left out of its script. At most 1,000,000 events
 are played to find them, and 40,000,000 for all outcomes and failures (of random runs, 1,000,000 for each).
 With --whole they stay: all that happened on the way there, as a race in a random run that its end doesn't need.
-With --first the search ends at the first hart that stops (with --architecture in an outcome), and at the first
-outcome that isn't in the file of --allow; the last line is then
+With --first the search ends at the first hart that stops, and at the first outcome that isn't in the file of
+--allow; the last line is then
   incomplete: ended at the first, M states met
 The machine carries loads out as they retire, so that what a missing fence between two loads allows is
 not among the outcomes. With --architecture it is: behind each outcome stands whether this machine shows
@@ -160,7 +160,7 @@ from which no schedule ends. The last line is
   complete: N outcomes, M states      no order that the memory model allows brings the program to another end
 or incomplete: and the limit that was met. With --sample, random runs are made and counted instead, each of
 at most 1,000,000 tried events, and the last line is sampled: RUNS runs, not complete; --architecture,
---show or --first don't go with it.
+--show or --first don't go with it, nor does --first with --architecture.
 --seed says nothing without --sample, --whole nothing without --scripts, --window nothing without --architecture,
 --states nothing with --sample.
 

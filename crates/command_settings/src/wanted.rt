@@ -16,9 +16,9 @@ const TWOFOLD: &str =
 const BLIND: &str =
     "neither --sample nor --architecture looks for states from which no schedule ends: leave out --fail-on stuck";
 
-/// What to do where random runs are to be made, and a search to end at its first.
+/// What to do where a search is to end at its first that isn't one of the machine's states.
 const UNSEARCHED: &str =
-    "--sample makes random runs of the machine, and goes with --seed; --first ends a search, and goes with --allow, --show and --architecture: leave out one of them";
+    "--first ends a search of the machine, and goes with --allow and --show: leave it out, or else --sample and --architecture";
 
 /// What to do where a search is to fail on what there isn't.
 const UNKNOWN: &str =
@@ -148,11 +148,11 @@ impl Explore<'_> {
         self.fails_on("stuck") && (self.architecture || 0 < self.sample)
     }
 
-    /// Whether random runs are asked for, and the first of what a search finds.
+    /// Whether the first of what a search of the machine finds is asked for, and no such search.
     fn is_unsearched(&self) -> bool
         ensures { IsTrue result ↔ IsUnsearched self.now }
     {
-        self.first && 0 < self.sample
+        self.first && (self.architecture || 0 < self.sample)
     }
 
     /// Whether the search is to fail on what there isn't.

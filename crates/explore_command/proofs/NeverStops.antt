@@ -1,5 +1,5 @@
 -- A complete exploration tells each hart that stops, whatever the others do then; so where it tells none, none ever stops.
-use Rattle.std.proofs.Common.{◌≡◌, ℕ, suc, ◌+◌, ◌<◌, ◌==◌, ◌&&◌, ◌||◌, List, [], ◌∷◌, ◌++◌, Bool, true, false, Option, Some, None, Contains, refl, sym, subst, ap, ◌∙◌, cond, not, arith, length, map, slice_get, is_some, codes, if◌then◌else◌}
+use Rattle.std.proofs.Common.{◌≡◌, ℕ, suc, ◌==◌, ◌&&◌, ◌||◌, List, [], ◌∷◌, ◌++◌, Bool, true, false, Option, Some, None, Contains, refl, sym, ap, not, arith, length, map, slice_get, is_some, codes, if◌then◌else◌}
 use Rattle.std.proofs.lemmas.Bool.{eqb-true, false≢true, false_from_ne_true}
 use Rattle.command_files.specs.Contents.{Contents}
 use Rattle.command_files.specs.Faults.{Name}
@@ -9,7 +9,6 @@ use Rattle.elf_loader.specs.Image.{Initial}
 use Rattle.explore_command.specs.Exploring.{exploration_fails, tells_failures}
 use Rattle.explore_command.specs.Judging.{IsJudged, are_allowed, failure_line, has_stopped, have_failure, incomplete_line, is_complete, is_stopped, line_if, stuck_line}
 use Rattle.explore_command.specs.Passing.{NoneStops, PassingIsSafe}
-use Rattle.command_files.specs.declared.allowing.Judgement.{Judgement}
 use Rattle.command_files.specs.declared.allowing.Judgement.TheVariants.{Allowed, NotAllowed}
 use Rattle.exploration_text.specs.Words.{end_text}
 use Rattle.explorer.specs.Ends.{outcome_of}
@@ -19,7 +18,7 @@ use Rattle.explorer.specs.declared.found.FoundFailure.{FoundFailure}
 use Rattle.explorer.specs.declared.exploration.Stuck.{Stuck}
 use Rattle.flat_exploration.specs.declared.failure.Failure.{Failure}
 use Rattle.flat_exploration.specs.declared.failure.Stop.{Stop}
-use Rattle.flat_exploration.specs.Failures.{machine_stops, stop_by, stop_of}
+use Rattle.flat_exploration.specs.Failures.{stop_by, stop_of}
 use Rattle.flat_model.specs.Shown.{HartEnd, results}
 use Rattle.hart.specs.declared.status.Status.{Status}
 use Rattle.hart.specs.declared.status.Status.TheVariants as status

@@ -1,6 +1,6 @@
 -- What is known of an exploration that shows words, and what its faults say and leave.
-use Rattle.std.proofs.Common.{◌≡◌, ◌≢◌, ◌∙◌, ◌⊎◌, ◌≤◌, ◌-◌, ℕ, [], ◌∷◌, ◌++◌, All, arith, IfSome, List, Option, Some, ap, drop, get_or, inl, inr, length, map, refl, reverse, subst, sym, take}
-use Rattle.std.proofs.lemmas.List.{append_assoc, length-drop, length-map, map-append, reverse-append, take_all}
+use Rattle.std.proofs.Common.{◌≡◌, ◌≢◌, ◌∙◌, ◌⊎◌, ◌≤◌, ◌-◌, ℕ, [], ◌∷◌, ◌++◌, All, arith, IfSome, List, Option, Some, ap, drop, get_or, inl, inr, length, map, refl, subst, sym, take}
+use Rattle.std.proofs.lemmas.List.{append_assoc, length-drop, map-append, take_all}
 use Rattle.std.proofs.lemmas.List.Elements.{All-nil, All-push}
 use Rattle.std.specs.Io.KnownBytes.{Appends}
 use Rattle.command_files.specs.Faults.{Name}

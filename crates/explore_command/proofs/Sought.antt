@@ -1,5 +1,5 @@
 -- What an exploration that ended at the first tells, once it is judged.
-use Rattle.std.proofs.Common.{◌≡◌, ◌∙◌, ◌==◌, ◌&&◌, ◌<◌, ℕ, suc, List, [], ◌∷◌, Option, None, Some, Bool, true, false, Err, IfOk, Ok, Result, ap, arith, get_or, if◌then◌else◌, inl, inr, length, map, refl, subst, sym}
+use Rattle.std.proofs.Common.{◌≡◌, ◌∙◌, ◌==◌, ◌&&◌, ◌<◌, ℕ, zero, suc, List, [], ◌∷◌, Option, None, Some, Bool, true, false, Err, IfOk, Ok, Result, ap, arith, get_or, if◌then◌else◌, inl, inr, length, map, refl, subst, sym}
 use Rattle.std.specs.declared.alloc.AllocError.{AllocError}
 use Rattle.allowed_outcomes.specs.Allowing.{is_allowed_line, without_number}
 use Rattle.exploration_text.specs.Words.{end_text}
@@ -23,17 +23,17 @@ and_false false = refl
 module _ (names : List WordName) where
   -- where one isn't allowed, not all are
   one_refused : (text : List ℕ) (found : List Found) (o : Outcome) (i : ℕ) → i < length (outcomes_of found) → get_or (outcomes_of found) i o ≡ o → is_allowed_line text (without_number (end_text names o)) ≡ false → are_allowed_lines text (map (λ f. end_text names (outcome_of f)) found) ≡ false
-  one_refused text [] o i low at no = absurd (omega (arith, low))
-  one_refused text (x ∷ xs) o 0 low at no =
+  one_refused text [] o i low at refuses = absurd (omega (arith, low))
+  one_refused text (x ∷ xs) o zero low at refuses =
       let rest = are_allowed_lines text (map (λ f. end_text names (outcome_of f)) xs) in
-      ap (λ (p : Outcome). is_allowed_line text (without_number (end_text names p)) && rest) at ∙ ap (λ (b : Bool). b && rest) no
-  one_refused text (x ∷ xs) o (suc i) low at no =
+      ap (λ (p : Outcome). is_allowed_line text (without_number (end_text names p)) && rest) at ∙ ap (λ (b : Bool). b && rest) refuses
+  one_refused text (x ∷ xs) o (suc i) low at refuses =
       let first = is_allowed_line text (without_number (end_text names (outcome_of x))) in
-      ap (λ (b : Bool). first && b) (one_refused text xs o i (omega (arith, low)) at no) ∙ and_false first
+      ap (λ (b : Bool). first && b) (one_refused text xs o i (omega (arith, low)) at refuses) ∙ and_false first
 
   not_all : (text : Option (List ℕ)) (found : List Found) (o : Outcome) (i : ℕ) → i < length (outcomes_of found) → get_or (outcomes_of found) i o ≡ o → IsRefused text (end_text names o) → are_allowed text (map (λ f. end_text names (outcome_of f)) found) ≡ false
-  not_all None found o i low at no = absurd no
-  not_all (Some text) found o i low at no = one_refused text found o i low at no
+  not_all None found o i low at refuses = absurd refuses
+  not_all (Some text) found o i low at refuses = one_refused text found o i low at refuses
 
   -- so what ended it is judged so
   pub ends_judged : (is_asked : Bool) (text : Option (List ℕ)) (fails : List ℕ) (found : Exploration) (judgement : Judgement) → judgement ≡ judgement_of_lines text (map (λ f. end_text names (outcome_of f)) found.outcomes.items) fails → EndsBy is_asked names text found → EndsJudged is_asked judgement found
@@ -43,7 +43,7 @@ module _ (names : List WordName) where
           asked,
           elim why [
             | inl stops ↦ inl stops
-            | inr (o, (i, low, at), no) ↦ inr (is ∙ ap (λ (b : Bool). if b && (length fails == 0) then Allowed else NotAllowed) (not_all text found.outcomes.items o i low at no))
+            | inr (o, (i, low, at), refuses) ↦ inr (is ∙ ap (λ (b : Bool). if b && (length fails == 0) then Allowed else NotAllowed) (not_all text found.outcomes.items o i low at refuses))
           ],
         );
     untimed = by.untimed;
@@ -55,7 +55,7 @@ pub ends_by : (is_asked asked : Bool) (names called : List WordName) (text : Opt
 ends_by is_asked asked names called text Refuses same known reads (Ok e) first untimed = record {
   first = λ met. elim (first met) [
     | inl (is, stops) ↦ (sym same ∙ is, inl stops)
-    | inr (o, told, is, no) ↦ (sym same ∙ is, inr (o, told, subst (λ (n : List WordName). IsRefused text (end_text n o)) known (reads (end_text called o) no)))
+    | inr (o, told, (is, refuses)) ↦ (sym same ∙ is, inr (o, told, subst (λ (n : List WordName). IsRefused text (end_text n o)) known (reads (end_text called o) refuses)))
   ];
   untimed = untimed;
 }

@@ -1,7 +1,7 @@
 -- A test's answer, or what is told in its place.
 use Rattle.std.proofs.Common.{◌≡◌, ℕ, Bool, List, Ok, inl, inr, subst, sym}
-use Rattle.std.specs.Prelude.{IsSome}
-use Rattle.litmus_answers.specs.Layouts.{IsFault, IsLayout}
+use Rattle.litmus_answers.specs.Faults.{IsFault, MakesNoProgram}
+use Rattle.litmus_answers.specs.Layouts.{IsLayout}
 use Rattle.litmus_answers.specs.declared.layout.Layout.{Layout}
 use Rattle.litmus_command.specs.Answers.{AnswersTest, IsAnswer, IsHalt, IsSearch}
 use Rattle.litmus_command.specs.Ended.{IsStop, IsTrouble, TellsStop}
@@ -15,7 +15,7 @@ use Rattle.litmus_command.specs.declared.fault.Halt.{Halt}
 use Rattle.litmus_command.specs.declared.fault.Halt.TheVariants as halt
 use Rattle.litmus_command.specs.declared.fault.Trouble.{Trouble}
 use Rattle.litmus_command.specs.declared.fault.Trouble.TheVariants as trouble
-use Rattle.litmus_parts.specs.Stops.{Refuses, fault_of}
+use Rattle.litmus_parts.specs.Stops.{Refuses}
 use Rattle.litmus_parts.specs.declared.stop.Cause.{Cause}
 use Rattle.litmus_parts.specs.declared.stop.Stop.{Stop}
 use Rattle.litmus_parts.specs.declared.stop.Stop.TheVariants.{At, Memory}
@@ -29,9 +29,9 @@ no_test bytes w (At cause left) (trouble.Text line why found) is refuses = (left
 no_test bytes w (At cause left) (trouble.Halts halt) is refuses = absurd is
 
 -- they are a test that makes no program
-pub no_program : (bytes : List ℕ) (w : Wishes) (test : Meaning) (stop : Stop) (told : Trouble) → TellsStop bytes stop told → test_in bytes ≡ Ok test → IsFault stop → IsTrouble bytes w told
+pub no_program : (bytes : List ℕ) (w : Wishes) (test : Meaning) (stop : Stop) (told : Trouble) → TellsStop bytes stop told → test_in bytes ≡ Ok test → IsFault test stop → IsTrouble bytes w told
 no_program bytes w test Memory told is of fault = subst (IsTrouble bytes w) (sym is) tt
-no_program bytes w test (At cause left) (trouble.Text line why found) is of fault = (left, is.0, inr (test, of, subst (λ (c : Cause). IsSome (fault_of c)) (sym is.1) fault))
+no_program bytes w test (At cause left) (trouble.Text line why found) is of fault = (left, is.0, inr (test, of, subst (λ (c : Cause). MakesNoProgram test c left) (sym is.1) fault))
 no_program bytes w test (At cause left) (trouble.Halts halt) is of fault = absurd is
 
 -- they are a test that was answered

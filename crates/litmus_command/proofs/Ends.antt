@@ -1,8 +1,10 @@
 -- How files end, one by one.
-use Rattle.std.proofs.Common.{◌≡◌, ℕ, Bool, true, false, List, [], Option, Some, None, Ok, Err, inl, inr, refl, subst, sym}
+use Rattle.std.proofs.Common.{◌≡◌, ℕ, Bool, true, false, List, [], Option, Some, None, Err, inl, inr, refl, subst, sym}
 use Rattle.std.specs.Prelude.{IsSome, is_none, if◌then◌else◌}
 use Rattle.std.specs.Io.KnownBytes.{Appends}
+use Rattle.std.proofs.lemmas.Bool.{false≢true}
 use Rattle.command_files.specs.Contents.{Contents, HoldsBytes}
+use Rattle.litmus_answers.proofs.Faults.{is_fault}
 use Rattle.litmus_command.specs.Answers.{AnswersTest}
 use Rattle.litmus_command.specs.Ended.{Ends, IsAnswered, IsEnd, IsPrinted, IsRefused, IsSent, IsStop, IsTrouble, IsUnread, HasOther, is_other}
 use Rattle.litmus_command.specs.Wishes.{Wishes, are_compared}
@@ -46,7 +48,7 @@ none_of (Some fault) e = absurd cc
 -- what is no fault is no test's
 stop_of : (bytes : List ℕ) (cause : Cause) (left : ℕ) → IsStop bytes cause left → fault_of cause ≡ None → test_in bytes ≡ Err (At cause left)
 stop_of bytes cause left (inl e) none = e
-stop_of bytes cause left (inr made) none = absurd (subst (λ (fault : Option Fault). IsSome fault) none made.2)
+stop_of bytes cause left (inr made) none = absurd (false≢true (subst (λ (fault : Option Fault). IsSome fault) none (is_fault made.0 cause left made.2)))
 
 module _ (held : Contents) (w : Wishes) (name : List ℕ) where
   quietly : (old : Option (List ℕ)) (e : Ended) → IsEnd held w name e [] → Ends held w name old old e

@@ -1,6 +1,7 @@
 pub mod Adding
 pub mod Answering
 pub mod Ends
+pub mod Finding
 pub mod Fitting
 pub mod Lines
 pub mod Logged

@@ -1,6 +1,6 @@
 -- Lists read line by line.
-use Rattle.std.proofs.Common.{◌≡◌, ◌∙◌, ℕ, suc, ◌==◌, Bool, true, false, List, [], ◌∷◌, ◌++◌, ap, append_assoc, cond, drop, refl, sym, take}
-use Rattle.std.specs.Prelude.{String, map, reverse, string_bytes}
+use Rattle.std.proofs.Common.{◌≡◌, ◌∙◌, ℕ, suc, ◌==◌, Bool, true, false, List, [], ◌∷◌, ◌++◌, ap, append_assoc, cond, drop, sym, take}
+use Rattle.std.specs.Prelude.{String, reverse, string_bytes}
 use Rattle.std.specs.Global.{Global}
 use Rattle.std.proofs.lemmas.List.{append-nil, map-append, reverse-reverse}
 use Rattle.litmus_command.specs.Listing.{length_before, names_from, names_of_line, texts_of, trimmed}
@@ -9,12 +9,14 @@ use Rattle.litmus_command.specs.Listing.{length_before, names_from, names_of_lin
 
 split_on : (folder line text : List ℕ) → names_from folder line text ≡ names_of_line folder (trimmed (line ++ take (length_before 10 text) text)) ++ names_from folder [] (drop 1 (drop (length_before 10 text) text))
 split_on folder line [] = ap (λ (l : List ℕ). names_of_line folder (trimmed l)) (sym (append-nil line)) ∙ sym (append-nil _)
-split_on folder line (b ∷ text) = go (b == 10)
+split_on folder line (b ∷ text) = go (b == 10) (split_on folder (line ++ b ∷ []) text)
   where
-    go : (test : Bool) → cond test (names_of_line folder (trimmed line) ++ names_from folder [] text) (names_from folder (line ++ b ∷ []) text)
+    go : (test : Bool)
+        → names_from folder (line ++ b ∷ []) text ≡ names_of_line folder (trimmed ((line ++ b ∷ []) ++ take (length_before 10 text) text)) ++ names_from folder [] (drop 1 (drop (length_before 10 text) text))
+        → cond test (names_of_line folder (trimmed line) ++ names_from folder [] text) (names_from folder (line ++ b ∷ []) text)
         ≡ names_of_line folder (trimmed (line ++ take (cond test 0 (suc (length_before 10 text))) (b ∷ text))) ++ names_from folder [] (drop 1 (drop (cond test 0 (suc (length_before 10 text))) (b ∷ text)))
-    go true = ap (λ (l : List ℕ). names_of_line folder (trimmed l) ++ names_from folder [] text) (sym (append-nil line))
-    go false = split_on folder (line ++ b ∷ []) text ∙ ap (λ (l : List ℕ). names_of_line folder (trimmed l) ++ names_from folder [] (drop 1 (drop (length_before 10 text) text))) (append_assoc line (b ∷ []) (take (length_before 10 text) text))
+    go true others = ap (λ (l : List ℕ). names_of_line folder (trimmed l) ++ names_from folder [] text) (sym (append-nil line))
+    go false others = others ∙ ap (λ (l : List ℕ). names_of_line folder (trimmed l) ++ names_from folder [] (drop 1 (drop (length_before 10 text) text))) (append_assoc line (b ∷ []) (take (length_before 10 text) text))
 
 -- the names of the first line, and those of the others
 pub line_read : (folder rest line others : List ℕ) (all old new : List (List ℕ)) → old ++ names_from folder [] rest ≡ all → line ≡ take (length_before 10 rest) rest

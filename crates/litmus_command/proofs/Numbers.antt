@@ -15,11 +15,12 @@ each_digit (d ∷ ds) h = rw (lt-ltb (digit_value d) 10 h.0) (each_digit ds h.1)
 
 digits_each : (ds : List ℕ) → list_all (λ d. nat_lt (digit_value d) 10) ds ≡ true → AllDigits 10 ds
 digits_each [] h = tt
-digits_each (d ∷ ds) h = go (nat_lt (digit_value d) 10) refl h
+digits_each (d ∷ ds) h = go (nat_lt (digit_value d) 10) refl h (λ e. digits_each ds e)
   where
-    go : (test : Bool) → nat_lt (digit_value d) 10 ≡ test → (test && list_all (λ e. nat_lt (digit_value e) 10) ds) ≡ true → (digit_value d < 10) × AllDigits 10 ds
-    go true is e = (ltb-true (digit_value d) 10 is, digits_each ds e)
-    go false is e = absurd cc
+    go : (test : Bool) → nat_lt (digit_value d) 10 ≡ test → (test && list_all (λ e. nat_lt (digit_value e) 10) ds) ≡ true
+        → (list_all (λ e. nat_lt (digit_value e) 10) ds ≡ true → AllDigits 10 ds) → (digit_value d < 10) × AllDigits 10 ds
+    go true is e others = (ltb-true (digit_value d) 10 is, others e)
+    go false is e others = absurd cc
 
 abbrev number_ok : ℕ → Result ℕ Misuse
 number_ok n = Ok n

@@ -1,5 +1,5 @@
 -- A hart that stops at one of many outcomes.
-use Rattle.std.proofs.Common.{◌≡◌, ◌<◌, ℕ, suc, List, [], ◌∷◌, Contains, arith, get_or, length, refl}
+use Rattle.std.proofs.Common.{suc, List, ◌∷◌, arith, refl}
 use Rattle.architecture_outcomes.specs.declared.outcome.Outcome.{Outcome}
 use Rattle.litmus_command.specs.States.{IsStopIn, IsStopOf}
 use Rattle.litmus_command.specs.declared.fault.Halt.{Halt}

@@ -5,11 +5,11 @@ use Rattle.std.specs.Global.{Global}
 use Rattle.std.specs.Io.KnownBytes.{Appends, Keeps}
 use Rattle.std.proofs.lemmas.Bool.{false≢true}
 use Rattle.std.proofs.lemmas.Grind.{flat_map-append}
-use Rattle.std.proofs.lemmas.List.{append-nil, length-map, length-reverse, map-append, reverse-append}
+use Rattle.std.proofs.lemmas.List.{append-nil, length-append, length-map, length-reverse, map-append, reverse-append}
 use Rattle.std.proofs.lemmas.List.Folds.{list_any-append}
 use Rattle.command_files.specs.Contents.{Contents}
 use Rattle.litmus_command.specs.Ended.{Ends, IsUnread, final_status, is_closed, is_cut, is_differing, is_failed, is_starved, status_by}
-use Rattle.litmus_command.specs.Line.{AllPassed, AreAnswered, AreCounted, AreCut, Came, EndsWith, HasFault, HasStarved, IsTaken, IsUnderWay, Walks, all_sent, are_left, ended_as, has, is_list, sent_of}
+use Rattle.litmus_command.specs.Line.{AllPassed, AreAnswered, AreCounted, AreCut, AreTooMany, Came, EndsWith, HasFault, HasStarved, IsTaken, IsUnderWay, Walks, all_sent, are_left, ended_as, has, is_list, sent_of}
 use Rattle.litmus_command.specs.Line.Came.{ended, listed}
 use Rattle.litmus_command.specs.Listing.{texts_of}
 use Rattle.litmus_command.specs.Waiting.{GoesOn, HasNames, IsCut, Takes, TellsHow, waiting}
@@ -50,13 +50,13 @@ none_waits pending none = left_none (waiting pending) (waiting_length pending �
 
 module _ (held : Contents) (w : Wishes) (name : List ℕ) (before : List (List ℕ)) (lists : ℕ) where
   not_list : (e : Ended) → is_list name ≡ false → is_list name ≡ true → (is_failed e || is_cut e) ≡ true
-  not_list e no is = absurd (false≢true (sym no ∙ is))
+  not_list e file is = absurd (false≢true (sym file ∙ is))
 
   -- a file
   pub took_file : (old new : Option (List ℕ)) (e : Ended) → is_list name ≡ false → Ends held w name old new e → Takes held w name before lists old new before lists (Some e)
-  took_file old new e no is = record {
+  took_file old new e file is = record {
     what = ended e is.sent;
-    taken = record { is_end = is.is_end; of_list = not_list e no; others = refl; same = refl };
+    taken = record { is_end = is.is_end; of_list = not_list e file; others = refl; same = refl };
     went = is.went;
     how = refl;
   }
@@ -192,15 +192,16 @@ module _ (held : Contents) (w : Wishes) where
         subst (Appends first new) (ap (λ (l : List ℕ). all_sent cames ++ l) (sym (one_sent c)) ∙ sym (flat_map-append sent_of cames (c ∷ []))) (appends_then first old new (all_sent cames) (sent_of c) so now)
 
     -- nothing was taken yet
-    pub begun : (counts : Counts) (left : List (List ℕ)) → left ≡ names → counts.failed ≡ 0 → counts.differing ≡ 0 → IsUnderWay held w names first first left 0 counts
-    begun counts left is failed differing = record { cames = []; walks = (is, refl); sent = appends_none first; uncut = refl; failed = ap (nat_lt 0) failed; differing = ap (nat_lt 0) differing }
+    pub begun : (counts : Counts) (left : List (List ℕ)) → left ≡ names → counts.failed ≡ 0 → counts.differing ≡ 0 → IsUnderWay held w names first first left 0 0 counts
+    begun counts left is failed differing = record { cames = []; walks = (is, refl); count = refl; sent = appends_none first; uncut = refl; failed = ap (nat_lt 0) failed; differing = ap (nat_lt 0) differing }
 
     -- one more name was taken
-    pub further : (old new : Option (List ℕ)) (name : List ℕ) (at left next : List (List ℕ)) (lists n : ℕ) (counts counts' : Counts) → IsUnderWay held w names first old at lists counts → at ≡ name ∷ left
-        → GoesOn held w name left lists counts old new next n counts' → IsUnderWay held w names first new next n counts'
-    further old new name at left next lists n counts counts' way is on = record {
+    pub further : (old new : Option (List ℕ)) (name : List ℕ) (at left next : List (List ℕ)) (taken lists n : ℕ) (counts counts' : Counts) → IsUnderWay held w names first old at taken lists counts → at ≡ name ∷ left
+        → GoesOn held w name left lists counts old new next n counts' → IsUnderWay held w names first new next (taken + 1) n counts'
+    further old new name at left next taken lists n counts counts' way is on = record {
       cames = way.cames ++ on.what ∷ [];
       walks = walked_on names 0 way.cames name left lists on.what next n (subst (λ (a : List (List ℕ)). Walks held w names 0 way.cames a lists) is way.walks) on.taken;
+      count = length-append way.cames (on.what ∷ []) ∙ ap (λ (n : ℕ). n + 1) way.count;
       sent = more_sent old new way.cames on.what way.sent on.went;
       uncut = list_any-append (ended_as is_cut) way.cames (on.what ∷ []) ∙ ap₂ (λ (x y : Bool). x || y) way.uncut (has_one is_cut on.what ∙ on.uncut);
       failed = more_has is_failed way.cames on.what _ _ way.failed on.failed;
@@ -215,16 +216,18 @@ module _ (held : Contents) (w : Wishes) where
     ends_with cames c status (inr starved) = inr (starved.0, inl (last_has is_starved cames c starved.1))
 
     -- one ended the command
-    pub cut_off : (old new : Option (List ℕ)) (name : List ℕ) (at left : List (List ℕ)) (lists : ℕ) (counts : Counts) (status : ℕ) → IsUnderWay held w names first old at lists counts → at ≡ name ∷ left
-        → IsCut held w name left lists old new status → AreCut held w names first new status
-    cut_off old new name at left lists counts status way is cut = record {
-      cames = way.cames ++ cut.what ∷ [];
-      left = cut.after;
-      lists = cut.count;
-      walks = walked_on names 0 way.cames name left lists cut.what cut.after cut.count (subst (λ (a : List (List ℕ)). Walks held w names 0 way.cames a lists) is way.walks) cut.taken;
-      sent = more_sent old new way.cames cut.what way.sent cut.went;
-      of_cause = ends_with way.cames cut.what status cut.of_cause;
-    }
+    pub cut_off : (now : Contents) (old new : Option (List ℕ)) (name : List ℕ) (at left : List (List ℕ)) (taken lists : ℕ) (counts : Counts) (status : ℕ) → IsUnderWay held w names first old at taken lists counts → at ≡ name ∷ left → now ≡ held
+        → IsCut now w name left lists old new status → AreCut held w names first new status
+    cut_off now old new name at left taken lists counts status way is same ends =
+        let cut = subst (λ (files : Contents). IsCut files w name left lists old new status) same ends in
+        record {
+          cames = way.cames ++ cut.what ∷ [];
+          left = cut.after;
+          lists = cut.count;
+          walks = walked_on names 0 way.cames name left lists cut.what cut.after cut.count (subst (λ (a : List (List ℕ)). Walks held w names 0 way.cames a lists) is way.walks) cut.taken;
+          sent = more_sent old new way.cames cut.what way.sent cut.went;
+          of_cause = ends_with way.cames cut.what status cut.of_cause;
+        }
 
     -- there was no memory for the names
     pub cut_first : AreCut held w names first first 4
@@ -235,8 +238,18 @@ module _ (held : Contents) (w : Wishes) where
     or_left false left is = sym is
 
     -- all were taken
-    pub all_counted : (new : Option (List ℕ)) (left : List (List ℕ)) (lists : ℕ) (counts : Counts) → IsUnderWay held w names first new left lists counts → are_left left ≡ false → AreCounted held w names first new counts
-    all_counted new left lists counts way none = record { cames = way.cames; left = left; lists = lists; walks = way.walks; sent = way.sent; uncut = way.uncut; failed = way.failed ∙ or_left _ left none; differing = way.differing }
+    pub all_counted : (new : Option (List ℕ)) (left : List (List ℕ)) (taken lists : ℕ) (counts : Counts) → IsUnderWay held w names first new left taken lists counts → are_left left ≡ false → AreCounted held w names first new counts
+    all_counted new left taken lists counts way none = record {
+      cames = way.cames;
+      left = left;
+      lists = lists;
+      walks = way.walks;
+      sent = way.sent;
+      uncut = way.uncut;
+      failed = way.failed ∙ or_left _ left none;
+      differing = way.differing;
+      many = λ some. absurd (false≢true (sym none ∙ some));
+    }
 
     or_yes : (b : Bool) (left : List (List ℕ)) → are_left left ≡ true → (b || true) ≡ (b || are_left left)
     or_yes true left is = refl
@@ -247,9 +260,9 @@ module _ (held : Contents) (w : Wishes) where
     or_none false = refl
 
     -- they are too many
-    pub too_many : (new : Option (List ℕ)) (left : List (List ℕ)) (lists : ℕ) (counts counts' : Counts) → IsUnderWay held w names first new left lists counts → are_left left ≡ true
+    pub too_many : (new : Option (List ℕ)) (left : List (List ℕ)) (taken lists : ℕ) (counts counts' : Counts) → IsUnderWay held w names first new left taken lists counts → taken ≡ 1000000 → are_left left ≡ true
         → nat_lt 0 counts'.failed ≡ (nat_lt 0 counts.failed || is_failed Failed) → nat_lt 0 counts'.differing ≡ (nat_lt 0 counts.differing || is_differing Failed) → AreCounted held w names first new counts'
-    too_many new left lists counts counts' way some failed differing = record {
+    too_many new left taken lists counts counts' way is some failed differing = record {
       cames = way.cames;
       left = left;
       lists = lists;
@@ -258,6 +271,7 @@ module _ (held : Contents) (w : Wishes) where
       uncut = way.uncut;
       failed = failed ∙ ap (λ (b : Bool). b || true) way.failed ∙ or_yes _ left some;
       differing = differing ∙ or_none _ ∙ way.differing;
+      many = λ left_over. (way.count ∙ is, left_over);
     }
 
     -- ---- the status
@@ -274,7 +288,7 @@ module _ (held : Contents) (w : Wishes) where
     cut_not cames status n (inr four) is no1 no4 = no4 (sym is ∙ four.0)
 
     cut_faulted : (cames : List Came) (left : List (List ℕ)) (status : ℕ) → EndsWith cames status → status ≡ 1 → HasFault w cames left
-    cut_faulted cames left status (inl one) is = inr (inr (inl one.1))
+    cut_faulted cames left status (inl one) is = inr (inr (inr (inl one.1)))
     cut_faulted cames left status (inr four) is = absurd (omega (arith, four.0))
 
     cut_starved : (cames : List Came) (status : ℕ) → EndsWith cames status → status ≡ 4 → HasStarved cames
@@ -325,9 +339,14 @@ module _ (held : Contents) (w : Wishes) where
     none_left [] e = refl
     none_left (name ∷ left) e = absurd cc
 
-    fault_behind : (cames : List Came) (left : List (List ℕ)) (fails : Bool) → fails ≡ (has is_failed cames || are_left left) → HasFault w cames left
-    fault_behind cames left true is = inr (inl (sym is))
-    fault_behind cames left false is = inr (inr (inr (none_left left (neither (has is_failed cames) (are_left left) (sym is)).1)))
+    -- a file failed, or others are left
+    fault_of : (cames : List Came) (left : List (List ℕ)) (fails : Bool) → has is_failed cames ≡ fails → (fails || are_left left) ≡ true → (are_left left ≡ true → AreTooMany cames left) → HasFault w cames left
+    fault_of cames left true is either many = inr (inl is)
+    fault_of cames left false is either many = inr (inr (inl (many either)))
+
+    fault_behind : (cames : List Came) (left : List (List ℕ)) (fails : Bool) → fails ≡ (has is_failed cames || are_left left) → (are_left left ≡ true → AreTooMany cames left) → HasFault w cames left
+    fault_behind cames left true is many = fault_of cames left (has is_failed cames) refl (sym is) many
+    fault_behind cames left false is many = inr (inr (inr (inr (none_left left (neither (has is_failed cames) (are_left left) (sym is)).1))))
 
     -- standard output takes no more at the end
     pub answered_unflushed : (mid new : Option (List ℕ)) (counts : Counts) → AreCounted held w names first mid counts → Keeps mid new → AreAnswered held w names first new 1
@@ -341,7 +360,7 @@ module _ (held : Contents) (w : Wishes) where
       fitting = λ two. absurd (omega arith);
       passed = λ none. absurd (omega arith);
       differing = λ three. absurd (omega arith);
-      faulted = λ one. fault_behind counted.cames counted.left (nat_lt 0 counts.failed) counted.failed;
+      faulted = λ one. fault_behind counted.cames counted.left (nat_lt 0 counts.failed) counted.failed counted.many;
       starved = λ four. absurd (omega arith);
     }
 
@@ -393,6 +412,6 @@ module _ (held : Contents) (w : Wishes) where
       fitting = λ two. not_two (nat_lt 0 counts.failed) (nat_lt 0 counts.differing) (sym is ∙ two);
       passed = λ none. let parts = at_none (nat_lt 0 counts.failed) (nat_lt 0 counts.differing) (sym is ∙ none) in passed_so counts mid false counted parts.0 parts.1;
       differing = λ three. let parts = at_three (nat_lt 0 counts.failed) (nat_lt 0 counts.differing) (sym is ∙ three) in passed_so counts mid true counted parts.0 parts.1;
-      faulted = λ one. inr (inl (sym counted.failed ∙ at_one (nat_lt 0 counts.failed) (nat_lt 0 counts.differing) (sym is ∙ one)));
+      faulted = λ one. fault_of counted.cames counted.left (has is_failed counted.cames) refl (sym counted.failed ∙ at_one (nat_lt 0 counts.failed) (nat_lt 0 counts.differing) (sym is ∙ one)) counted.many;
       starved = λ four. absurd (not_four (nat_lt 0 counts.failed) (nat_lt 0 counts.differing) (sym is ∙ four));
     }

@@ -1,5 +1,5 @@
 -- Words read one after another.
-use Rattle.std.proofs.Common.{◌≡◌, ℕ, true, false, List, [], ◌∷◌, ◌++◌, Some, None, Ok, Err, inl, inr, refl, subst, sym, Option, Result}
+use Rattle.std.proofs.Common.{◌≡◌, ◌∙◌, ◌≤◌, ℕ, true, false, List, [], ◌∷◌, ◌++◌, Some, None, Ok, Err, ap, arith, get_or, inl, inr, length, map, refl, subst, sym, Option, Result}
 use Rattle.command_files.specs.Contents.{Contents}
 use Rattle.litmus_command.specs.Line.{AreAnswered, IsLineOf}
 use Rattle.std.specs.Borrow.{Bor}
@@ -45,9 +45,9 @@ module _ (old new : State) (word : List ℕ) where
   -- an option waits: the word is its value
   pub reads_value : {T : Type 0} (option : Bor (List ℕ)) (taken : Result T Misuse) → old.waiting ≡ Some option → new.waiting ≡ None → new.names ≡ old.names → Takes (valued option.now word (wishes old.wanted)) (wishes new.wanted) taken
       → ReadsOn old new word taken
-  reads_value option (Ok done) waits none same takes words =
+  reads_value option (Ok done) waits none same takes = λ words.
       rw (waits, none, same) (valued_on (wishes old.wanted) (wishes new.wanted) (texts old.names.items) words misuse.NoMemory word option.now takes)
-  reads_value option (Err why) waits none same takes words =
+  reads_value option (Err why) waits none same takes = λ words.
       why_is _ why (rw waits (valued_err (wishes old.wanted) (wishes new.wanted) (texts old.names.items) words why word option.now takes))
 
   -- no option waits, and the word is none that can stand so
@@ -67,9 +67,12 @@ module _ (old new : State) (word : List ℕ) where
   pub reads_name : old.waiting ≡ None → new.waiting ≡ None → new.wanted ≡ old.wanted → texts new.names.items ≡ texts old.names.items ++ word ∷ [] → is_option word ≡ false → (words : List (List ℕ)) → read_on old (word ∷ words) ≡ read_on new words
   reads_name none still wanted more plain words = rw (none, still, wanted, more) (name_on (wishes old.wanted) (wishes old.wanted) (texts old.names.items) words misuse.NoMemory word plain)
 
--- why nothing can be done, by what the rest asks for
-pub why_on : (said whole : Reading) (why : Misuse) → said ≡ whole → IsWhy said why → IsWhy whole why
-why_on said whole why is so = subst (λ (r : Reading). IsWhy r why) is so
+-- the first of the words that are left is refused
+pub refused_on : {X : Type 0} (text : X → List ℕ) (old : State) (rest : List X) (first : X) (word : List ℕ) (whole : Reading) (why : Misuse) → 1 ≤ length rest → first ≡ get_or rest 0 first → word ≡ text first
+    → read_on old (map text rest) ≡ whole → ((words : List (List ℕ)) → IsWhy (read_on old (word ∷ words)) why) → IsWhy whole why
+refused_on text old [] first word whole why some is same so refuses = absurd (omega arith)
+refused_on text old (x ∷ rest) first word whole why some is same so refuses =
+    subst (λ (r : Reading). IsWhy r why) so (subst (λ (w : List ℕ). IsWhy (read_on old (w ∷ map text rest)) why) (same ∙ ap text is) (refuses (map text rest)))
 
 -- ---- the whole line
 

@@ -1,5 +1,5 @@
 -- The answer to a test by the states that were found.
-use Rattle.std.specs.Prelude.{ℕ, ◌≡◌, ◌&&◌, ◌||◌, Bool, true, false, All, IsTrue, List, ◌++◌, Ok, codes}
+use Rattle.std.specs.Prelude.{ℕ, ◌≡◌, ◌||◌, Bool, true, false, All, IsTrue, List, ◌++◌, Ok, codes}
 use Rattle.std.specs.Global.{Vec}
 use Rattle.litmus_answers.specs.declared.layout.Layout.{Layout}
 use Rattle.litmus_answers.specs.declared.report.Report.{Report}

@@ -1,5 +1,5 @@
 -- How files end, and the status that comes of it.
-use Rattle.std.specs.Prelude.{ℕ, ◌≡◌, ◌⊎◌, ◌++◌, ◌==◌, Bool, true, false, List, [], ◌∷◌, Option, Some, None, Ok, Err, IsSome, IsTrue, is_none, if◌then◌else◌}
+use Rattle.std.specs.Prelude.{ℕ, ◌≡◌, ◌⊎◌, ◌++◌, Bool, true, false, List, [], Option, Some, None, Ok, Err, IsTrue, is_none, if◌then◌else◌}
 use Rattle.std.specs.Io.KnownBytes.{Appends}
 use Rattle.command_files.specs.Contents.{Contents, HoldsBytes}
 use Rattle.litmus_command.specs.declared.ended.Ended.{Ended}
@@ -8,6 +8,7 @@ use Rattle.litmus_command.specs.declared.fault.Halt.{Halt}
 use Rattle.litmus_command.specs.declared.fault.Halt.TheVariants as halt
 use Rattle.litmus_command.specs.declared.fault.Trouble.{Trouble}
 use Rattle.litmus_command.specs.declared.fault.Trouble.TheVariants as trouble
+use Rattle.litmus_answers.specs.Faults.{MakesNoProgram}
 use Rattle.litmus_answers.specs.Layouts.{IsLayout}
 use Rattle.litmus_answers.specs.declared.layout.Layout.{Layout}
 use Rattle.litmus_command.specs.Answers.{AnswersTest, IsHalt}
@@ -27,9 +28,9 @@ abbrev pub is_other : Trouble → Bool
 is_other (trouble.Text line cause found) = is_none (fault_of cause)
 is_other (trouble.Halts halt) = false
 
--- no test goes on as the bytes do where so many are left; or they are a test that makes no program
+-- no test goes on as the bytes do where so many are left; or they are a test that makes no program, for this cause
 abbrev pub IsStop : List ℕ → Cause → (left : ℕ) → Type 0
-IsStop bytes cause left = (test_in bytes ≡ Err (At cause left)) ⊎ ((test : Meaning) × (test_in bytes ≡ Ok test) × IsSome (fault_of cause))
+IsStop bytes cause left = (test_in bytes ≡ Err (At cause left)) ⊎ ((test : Meaning) × (test_in bytes ≡ Ok test) × MakesNoProgram test cause left)
 
 -- they are a test that isn't answered for this cause
 abbrev pub HasHalt : List ℕ → Wishes → Halt → Type 0

@@ -1,5 +1,5 @@
 -- What `rvtl litmus` has done, by its status.
-use Rattle.std.specs.Prelude.{ℕ, ◌≡◌, ◌≢◌, ◌⊎◌, ◌+◌, ◌<◌, ◌≤◌, ◌==◌, ◌||◌, Bool, true, false, List, [], ◌∷◌, ◌++◌, Option, Ok, Err, nat_lt}
+use Rattle.std.specs.Prelude.{ℕ, ◌≡◌, ◌≢◌, ◌⊎◌, ◌+◌, ◌<◌, ◌≤◌, ◌==◌, ◌||◌, Bool, true, false, List, [], ◌∷◌, ◌++◌, Option, Ok, Err, length, nat_lt}
 use Rattle.std.specs.Io.KnownBytes.{Appends}
 use Rattle.std.specs.List.{flat_map, list_any}
 use Rattle.command_files.specs.Contents.{Contents, HoldsBytes}
@@ -74,14 +74,19 @@ abbrev pub are_left : List (List ℕ) → Bool
 are_left [] = false
 are_left (name ∷ names) = true
 
--- that came of the names so far, and no more went out; nothing has ended the command
-pub record IsUnderWay (held : Contents) (w : Wishes) (names : List (List ℕ)) (old new : Option (List ℕ)) (left : List (List ℕ)) (lists : ℕ) (counts : Counts) : Type 0 where
+-- that came of so many names, and no more went out; nothing has ended the command
+pub record IsUnderWay (held : Contents) (w : Wishes) (names : List (List ℕ)) (old new : Option (List ℕ)) (left : List (List ℕ)) (taken lists : ℕ) (counts : Counts) : Type 0 where
   pub cames : List Came
   pub walks : Walks held w names 0 cames left lists
+  pub count : length cames ≡ taken
   pub sent : Appends old new (all_sent cames)
   pub uncut : has is_cut cames ≡ false
   pub failed : nat_lt 0 counts.failed ≡ has is_failed cames
   pub differing : nat_lt 0 counts.differing ≡ has is_differing cames
+
+-- of 1000000 names something came, those of lists among them, and others are left
+abbrev pub AreTooMany : List Came → (left : List (List ℕ)) → Type 0
+AreTooMany cames left = (length cames ≡ 1000000) × (are_left left ≡ true)
 
 -- that came of all names; where they are too many, those that are left count as one that failed
 pub record AreCounted (held : Contents) (w : Wishes) (names : List (List ℕ)) (old new : Option (List ℕ)) (counts : Counts) : Type 0 where
@@ -93,6 +98,7 @@ pub record AreCounted (held : Contents) (w : Wishes) (names : List (List ℕ)) (
   pub uncut : has is_cut cames ≡ false
   pub failed : nat_lt 0 counts.failed ≡ (has is_failed cames || are_left left)
   pub differing : nat_lt 0 counts.differing ≡ has is_differing cames
+  pub many : are_left left ≡ true → AreTooMany cames left
 
 -- what ends the command before all names were taken: standard output takes no more, or memory is refused
 abbrev pub EndsWith : List Came → (status : ℕ) → Type 0
@@ -116,7 +122,7 @@ pub record AllPassed (cames : List Came) (left : List (List ℕ)) (differing : B
 
 -- a log can't be read, and nothing was taken; or a file fails, or there are too many names; or standard output takes no more, at a file or behind all
 abbrev pub HasFault : Wishes → List Came → (left : List (List ℕ)) → Type 0
-HasFault w cames left = ((are_compared w ≡ true) × (cames ≡ [])) ⊎ ((has is_failed cames || are_left left) ≡ true) ⊎ (has is_closed cames ≡ true) ⊎ (left ≡ [])
+HasFault w cames left = ((are_compared w ≡ true) × (cames ≡ [])) ⊎ (has is_failed cames ≡ true) ⊎ AreTooMany cames left ⊎ (has is_closed cames ≡ true) ⊎ (left ≡ [])
 
 -- memory was refused at a file, or before any was taken
 abbrev pub HasStarved : List Came → Type 0

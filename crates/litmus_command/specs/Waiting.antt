@@ -9,7 +9,7 @@ use Rattle.litmus_command.specs.declared.logs.Logs.{Logs}
 use Rattle.litmus_command.specs.declared.wanted.Misuse.{Misuse}
 use Rattle.litmus_command.specs.declared.wanted.Misuse.TheVariants as misuse
 use Rattle.litmus_command.specs.Ended.{is_closed, is_cut, is_differing, is_failed, is_starved}
-use Rattle.litmus_command.specs.Line.{Came, IsTaken, IsTold, ended_as, sent_of}
+use Rattle.litmus_command.specs.Line.{Came, IsTaken, ended_as, sent_of}
 use Rattle.litmus_command.specs.Line.Came.{ended, listed}
 use Rattle.litmus_command.specs.Listing.{names_in, texts_of}
 use Rattle.litmus_command.specs.Wishes.{Wishes}

@@ -299,10 +299,12 @@ fn answer_all<F: Files, O: Write, E: Write>(
     };
     let mut counts = Counts::none();
     let mut lists = 0;
-    for _ in 0..MOST_NAMES {
+    let mut taken = 0;
+    while taken < MOST_NAMES {
         let Some(name) = pending.pop() else {
-            break;
+            return Ok(counts);
         };
+        taken += 1;
         take_next(
             alloc,
             files,

@@ -53,7 +53,7 @@ fn add(
 }
 
 /// The states of outcomes that count, in their order.
-#[tactic(auto, using(crate::proofs::Stopping::of_first, crate::proofs::Stopping::of_rest))]
+#[tactic(auto, using(crate::proofs::Stopping::of_first))]
 fn found(
     alloc: Global,
     layout: &Layout,

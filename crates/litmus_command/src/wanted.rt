@@ -199,7 +199,6 @@ fn take_word<'a>(reading: &mut Reading<'a>, word: &'a str) -> Result<(), Misuse>
 }
 
 /// What these words ask for, those behind `litmus`.
-#[tactic(auto, using(crate::proofs::Words::why_on))]
 pub(crate) fn request_of<'a, S: AsStr>(alloc: Global, words: &'a [S]) -> Result<Request<'a>, Misuse>
     ensures states { IfOk result (λ request. 0 < request.wanted.states) }
     ensures request { requests.IsRequest (wishes.request_in (map S.text words.now)) result }

@@ -1,4 +1,4 @@
-use Rattle.std.proofs.Common.{◌≡◌, ◌∙◌, ◌||◌, Global, List, Option, Vec, length, map, option_map, rules, subst, sym, vec_len, ℕ}
+use Rattle.std.proofs.Common.{◌≡◌, ◌∙◌, ◌||◌, Global, List, Vec, length, map, option_map, rules, subst, sym, vec_len, ℕ}
 use Rattle.explore_command.proofs.Refused.{allowed_by, begun, refused_by}
 use Rattle.explore_command.specs.Judging.{fail_lines, have_failure}
 use Rattle.text_fields.specs.Writing.{Begins}

@@ -1,4 +1,4 @@
-use Rattle.std.proofs.Common.{◌≡◌, Contains, List, ℕ, subst, sym}
+use Rattle.std.proofs.Common.{Contains, List, ℕ, subst, sym}
 use Rattle.std.proofs.lemmas.List.Sorted.{IsPermutation-sym}
 use Rattle.litmus_answers.proofs.Sorting.{has_each, has_no_other, rises}
 use Rattle.litmus_command.proofs.states.states_of.Goals as goal

@@ -1,5 +1,6 @@
-use Rattle.std.proofs.Common.{◌≡◌, Err, IfErr, IfOk, List, Ok, Result, subst, ℕ}
+use Rattle.std.proofs.Common.{Err, IfErr, IfOk, List, Ok, Result, subst, ℕ}
 use Rattle.litmus_command.specs.Answers.{IsSearch}
+use Rattle.litmus_command.specs.Wishes.{wishes}
 use Rattle.litmus_command.proofs.Answering.{stops_so}
 use Rattle.litmus_command.proofs.test.answer_laid_out.Goals as goal
 
@@ -15,7 +16,7 @@ pub returns : goal.returns
 returns c =
     let searched = subst (λ (a : List ℕ). IsSearch c.args.wanted.machine c.in_ok-program.program a c.in_ok-found.found) c.deref.ensures.value c.in_ok-found.ensures in
     record {
-      halt = if_err_then _ _ c.reply_by.result (λ why. stops_so c.args.test.now c.args.layout.now _ c.in_ok-program.program c.in_ok-found.found why c.in_ok-program.ensures.program searched) c.reply_by.ensures.stop;
+      halt = if_err_then _ _ c.reply_by.result (λ why. stops_so c.args.test.now c.args.layout.now (wishes c.args.wanted) c.in_ok-program.program c.in_ok-found.found why c.in_ok-program.ensures.program searched) c.reply_by.ensures.stop;
       answer = if_ok_then _ _ c.reply_by.result (λ reply answers. record {
         program = c.in_ok-program.program;
         is_program = c.in_ok-program.ensures.program;

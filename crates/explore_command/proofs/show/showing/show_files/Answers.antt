@@ -1,4 +1,4 @@
-use Rattle.std.proofs.Common.{List, inl, inr, refl, subst, sym, ℕ}
+use Rattle.std.proofs.Common.{List, inl, inr, refl, subst}
 use Rattle.command_files.proofs.Left.{handed_up}
 use Rattle.command_files.specs.Faults.{Name}
 use Rattle.explore_command.proofs.Explored.{all_of, err_more, memory_left, ok_both, ok_more, spared, spared_after}
@@ -7,7 +7,7 @@ use Rattle.explore_command.proofs.Kept.{script_file, spares_wider}
 use Rattle.explore_command.proofs.Refused.{begun_by, on_err_more, on_err_of}
 use Rattle.explore_command.proofs.Asking.{asking_left, asking_told}
 use Rattle.explore_command.proofs.Shown.{has, refused, show_told, shown}
-use Rattle.explore_command.specs.Asking.{HasProgramBy, IsAskingFault}
+use Rattle.explore_command.specs.Asking.{IsAskingFault}
 use Rattle.explore_command.proofs.show.showing.show_files.Goals as goal
 
 pub returns-in_err-words-clause-told : goal.returns-in_err-words-clause-told
