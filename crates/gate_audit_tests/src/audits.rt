@@ -2,7 +2,9 @@
 ghost use Rattle.std.specs.Prelude.{◌<◌};
 
 use elf_loader::{Image, raw, size_of_kib};
-use fence_audit::{Audit, Question, audit_program, is_whole};
+use fence_audit::allowed_outcomes::Allowed;
+use fence_audit::{Allowance, Audit, Missing, Question, audit_allowed, audit_program, is_whole};
+use image_orderings::Patch;
 use machine_types::{Config, MemoryModel};
 use state_search::Unwatched;
 use std::alloc::{AllocError, Global};
@@ -46,11 +48,28 @@ fn audit_of(
     Ok(audit_in(alloc, &image, config, limit)?)
 }
 
+/// What the program lacks of two harts for the outcomes that a text allows.
+fn missing_of(alloc: Global, words: &[u32], text: &[u8]) -> Result<Missing, Fail> {
+    let image = image_of(alloc, words)?;
+    let config = Config::new(2, 1, 2, LineSize::Bytes16, MemoryModel::Rvwmo).ok_or("limits")?;
+    let question = Question {
+        image: &image,
+        config,
+        addresses: &[],
+        window: 16,
+        limit: 100_000,
+    };
+    let allowed = Allowed::new(alloc, text)?;
+    match audit_allowed(alloc, question, &[], &allowed, &Unwatched)? {
+        Allowance::Broken(missing) => Ok(missing),
+        Allowance::Kept(_) => Err("an outcome that isn't allowed".into()),
+    }
+}
+
 /// Whether these are the words of the last program, in their order.
-fn leaves(audit: &Audit, words: &[u32]) -> bool {
-    audit.last.len() == words.len()
-        && audit
-            .last
+fn leaves(last: &[Patch], words: &[u32]) -> bool {
+    last.len() == words.len()
+        && last
             .iter()
             .zip(words)
             .all(|(patch, word)| patch.word == *word)
@@ -68,7 +87,7 @@ fn ends_with(
     let audit = audit_of(rt.alloc(), words, harts, model, 100_000)?;
     assert!(rt; is_whole(&audit.known));
     assert_eq!(rt; audit.searches.len(), searches);
-    assert!(rt; leaves(&audit, last));
+    assert!(rt; leaves(&audit.last, last));
     Ok(())
 }
 
@@ -178,5 +197,44 @@ fn a_bound_of_the_first_search(rt: HostRuntime) -> Result<(), Fail> {
     let audit = audit_of(rt.alloc(), &MESSAGE, 2, MemoryModel::Rvwmo, 1)?;
     assert!(&rt; !is_whole(&audit.known));
     assert_eq!(&rt; audit.searches.len(), 0);
+    Ok(())
+}
+
+// `examples/ticket_marked.elf`: the counter may be read before the wait has ended, as a nop stands where a fence is missing.
+// Searched are the program with all that its AMOADD, nop and FENCE may order; with the AMOADD as it is; with the nop, which
+// isn't enough; with the FENCE as it is; with `fence r, r` in place of the nop, which is enough; and with the nop again.
+static TICKET: [u32; 22] = [
+    0x8000_02b7,
+    0x1002_8293,
+    0x8000_0337,
+    0x1403_0313,
+    0x8000_03b7,
+    0x1803_8393,
+    0x0010_0e13,
+    0x01c2_aeaf,
+    0x0003_2f03,
+    0xffdf_1ee3,
+    0x0000_0013,
+    0x0003_a503,
+    0x0015_0513,
+    0x00a3_a023,
+    0x0310_000f,
+    0x001e_8e93,
+    0x01d3_2023,
+    0x0010_0893,
+    0x0000_0073,
+    0x0000_0513,
+    0x0000_0893,
+    0x0000_0073,
+];
+
+#[test]
+fn a_ticket_lock_without_a_fence(rt: HostRuntime) -> Result<(), Fail> {
+    let turns =
+        b"hart 0: exit 0 output 1   hart 1: exit 0 output 2\nhart 0: exit 0 output 2   hart 1: exit 0 output 1\n";
+    let missing = missing_of(rt.alloc(), &TICKET, turns)?;
+    assert_eq!(&rt; missing.place, 0);
+    assert_eq!(&rt; missing.searches.len(), 6);
+    assert!(&rt; leaves(&missing.last, &[0x01c2_aeaf, 0x0220_000f, 0x0310_000f]));
     Ok(())
 }
