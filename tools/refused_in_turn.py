@@ -6,7 +6,7 @@ usage: tools/refused_in_turn.py [NAME..]      rows (row_10 ..) and commands (che
 Rows 10, 13, 18 and 34 are played by `gate_comparisons` event by event, as whole lists and on a fabric: whichever allocation is
 refused, it goes on and prints the same. A command of `rvtl` on a small file prints what it prints undisturbed, or ends with status 4 and
 `rvtl: out of memory` behind a beginning of it; an exploration may tell fewer outcomes, each a true one, and says `out of memory` in its last line.
-Where the start of a hart's thread is refused in place of an allocation, it says `rvtl: cannot start a thread`, with status 1; where that of
+Where the start of a hart's thread is refused in place of an allocation, or memory for one, it says `rvtl: cannot start a thread`, with status 1; where that of
 its own, `out of memory` and how large a stack it asked for, with status 4. Prints a line for each row and command with the number of
 refusals, which is never 0. `rt ci` has to have built the programs.
 """
@@ -121,6 +121,8 @@ def says_wrong(run, whole):
         return None
     if run.status in (0, 3) and run.out == whole.out and set(run.files) <= set(whole.files):
         return None  # a note alone is wanting
+    if run.status == 1 and not run.out and run.err == "rvtl: cannot start a thread\n":
+        return None  # the refused memory was that of a thread
     lines, last = run.out.splitlines(), run.out.splitlines()[-1:] or [""]
     if run.status != 4 or not run.err.splitlines() or "rvtl: out of memory" not in run.err.splitlines() + last and "out of memory" not in run.err + last[0]:
         return f"status {run.status}, {run.out[-120:]!r}, {run.err[-120:]!r}"
