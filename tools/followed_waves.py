@@ -15,21 +15,13 @@ import subprocess
 import sys
 import tempfile
 
+from followed_pages import scripts
+
 TOP = pathlib.Path(__file__).resolve().parent.parent
 RVTL = TOP / "crates/rvtl/out/rvtl"
-FOLDERS = (TOP / "examples", TOP / "crates/gate_comparisons/data")
 MESSAGES = "AcquireBlock ProbeBlock ProbeAck ProbeAckData Release ReleaseData Grant GrantData ReleaseAck GrantAck".split()
 PERMISSIONS = ("Nothing", "Branch", "Trunk")
 STATUSES = ("run", "stop", "exit")
-
-
-def scripts():
-    """Yields each script with its image and the option that the image wants."""
-    for folder in FOLDERS:
-        for script in sorted(folder.glob("*.script")):
-            for ending, option in ((".elf", []), (".bin", ["--raw"])):
-                if script.with_suffix(ending).is_file():
-                    yield script, script.with_suffix(ending), option
 
 
 def read_dump(text):
