@@ -15,7 +15,8 @@ import subprocess
 import sys
 import tempfile
 
-from followed_pages import scripts
+sys.dont_write_bytecode = True
+from followed_pages import scripts  # noqa: E402
 
 TOP = pathlib.Path(__file__).resolve().parent.parent
 RVTL = TOP / "crates/rvtl/out/rvtl"
