@@ -1,5 +1,5 @@
 -- Where the bound of an operation is no more than its rank, nothing behind it must come before it.
-use Rattle.std.proofs.Common.{◌≡◌, ℕ, zero, suc, ◌+◌, ◌-◌, ◌<◌, ◌≤◌, List, [], ◌∷◌, Bool, true, false, Option, Some, None, refl, cond, sym, subst, ap, ◌∙◌, ◌⊎◌, inl, inr, arith, drop, find, get_or, length, max}
+use Rattle.std.proofs.Common.{◌≡◌, ℕ, zero, suc, ◌+◌, ◌-◌, ◌<◌, ◌≤◌, List, [], ◌∷◌, Bool, true, false, Option, Some, None, refl, cond, sym, subst, ap, ◌∙◌, ◌⊎◌, inl, inr, arith, drop, find, get_or, length, max, take}
 use Rattle.std.specs.Prelude.{slice_get, slice_index_or}
 use Rattle.std.specs.List.{AllByRecursion as Each}
 use Rattle.std.proofs.lemmas.Bool.{true≢false}
@@ -128,6 +128,43 @@ first_left model harts order weights rows rule p count first from b d bounds cou
         let weight = weighed k (omega (arith, m)) (omega (arith, long, counted)) in
         absurd (omega (arith, heavy, at, weight, long, counted, bound, cut, m, n))
     go k a e m n false t = t
+
+-- ---- those before a bound
+
+none_of : (test : Operation → Bool) (xs : List Operation) → ((k : ℕ) (a : Operation) → slice_get xs k ≡ Some a → test a ≡ false) → find test xs ≡ None
+none_of test [] f = refl
+none_of test (x ∷ xs) f = ap (λ (c : Bool). cond c (Some x) (find test xs)) (f zero x refl) ∙ none_of test xs (λ k a e. f (suc k) a e)
+
+none_taken : (test : Operation → Bool) (n : ℕ) → find test (take n []) ≡ None
+none_taken test zero = refl
+none_taken test (suc n) = refl
+
+-- none from a place on passes a test
+pub first_before : (test : Operation → Bool) (xs : List Operation) (p q : ℕ) → ((k : ℕ) (a : Operation) → q ≤ k → slice_get xs k ≡ Some a → test a ≡ false) → find test (take (q - p) (drop p xs)) ≡ find test (drop p xs)
+first_before test [] p q f = ap (λ (ys : List Operation). find test (take (q - p) ys)) (drop-nil p) ∙ (none_taken test (q - p) ∙ sym (nothing_left test p))
+first_before test (x ∷ xs) zero zero f = sym (none_of test (x ∷ xs) (λ k a e. f k a (omega arith) e))
+first_before test (x ∷ xs) zero (suc q) f =
+    let whole : suc q - 0 ≡ suc q = omega arith in
+    let part : q ≡ q - 0 = omega arith in
+    ap (λ (n : ℕ). find test (take n (x ∷ xs))) whole
+    ∙ ap (λ (o : Option Operation). cond (test x) (Some x) o) (ap (λ (n : ℕ). find test (take n xs)) part ∙ first_before test xs zero q (λ k a l e. f (suc k) a (omega (arith, l)) e))
+first_before test (x ∷ xs) (suc p) zero f =
+    let none : zero - suc p ≡ zero - p = omega arith in
+    ap (λ (n : ℕ). find test (take n (drop p xs))) none ∙ first_before test xs p zero (λ k a l e. f (suc k) a (omega arith) e)
+first_before test (x ∷ xs) (suc p) (suc q) f =
+    let less : suc q - suc p ≡ q - p = omega arith in
+    ap (λ (n : ℕ). find test (take n (drop p xs))) less ∙ first_before test xs p q (λ k a l e. f (suc k) a (omega (arith, l)) e)
+
+pub beyond_bound : (model : MemoryModel) (harts : List (List Item)) (order : List Operation) (rows : List Row) (rule : Rule) (p k : ℕ) (b a : Operation) → AreDistinctOperations order → RanksEach model harts order rows → slice_get order p ≡ Some b
+    → bound_of rule (slice_index_or rows p unbounded) ≤ k → slice_get order k ≡ Some a → asked_by model harts order (rule_of rule) a b ≡ false
+beyond_bound model harts order rows rule p k b a d ranks there l e = go (asked_by model harts order (rule_of rule) a b) refl
+  where
+    go : (c : Bool) → asked_by model harts order (rule_of rule) a b ≡ c → asked_by model harts order (rule_of rule) a b ≡ false
+    go true t =
+        let below = Each-at (λ (y : Operation). asked_by model harts order (rule_of rule) y b ≡ true → position_in order y < bound_of rule (slice_index_or rows p unbounded)) a order (ranks.each p b there rule) (member_at order k a e) t in
+        let at = position_at order k a d e in
+        absurd (omega (arith, below, at, l))
+    go false t = t
 
 -- ---- where no bound leaves room
 

@@ -57,7 +57,7 @@ filled_at model harts order weights rows b w r m position gives bound placed own
         let f = found_one harts order b c m p gives there of_item (k ∙ is_at) e in
         let one : f.1.item ≡ m = same_Some f.1.item m (sym f.1.there ∙ there) in
         let of_lr = λ (is : is_lr b.kind ≡ true). ap (λ (i : Item). is_lr_or_sc i.instr) (sym one) ∙ f.1.of_lr is in
-        let given : IsGiven (items_of harts b.hart) b = record { item = m; there = there; gives = of_item; has_bytes = f.1.has_bytes; of_lr = of_lr } in
+        let given : IsGiven (items_of harts b.hart) b = record { item = m; there = there; gives = of_item; has_bytes = f.1.has_bytes; small = f.1.small; of_lr = of_lr } in
         let written : slice_index_or (set rows position r) p unbounded ≡ r = get_or-set_at rows position p r unbounded k (omega (arith, k, l)) in
         subst (λ (y : Row). Bounds model harts order weights c y) (sym written)
         (subst (λ (y : Operation). Bounds model harts order weights y r) (sym f.0) (bounded model harts order weights rows b w r gives bound placed own given come row))

@@ -1,45 +1,71 @@
--- The ranks of the sources that are kept of each load: one more at a time, and told by the load's name.
-use Rattle.std.proofs.Common.{◌≡◌, ℕ, ◌+◌, ◌<◌, ◌≤◌, List, [], ◌∷◌, true, Option, Some, None, cond, sym, subst, ap, ◌∙◌, ◌&&◌, ⊎_elim, arith, length, refl, set}
-use Rattle.std.specs.Prelude.{filter, nat_eq, nat_lt, slice_get, slice_index_or}
-use Rattle.std.specs.List.{last_or}
-use Rattle.std.proofs.lemmas.Bool.{and_parts, cases_eq, eqb-true}
+-- The ranks of the sources that are kept of each load: found one load after the other, and told by the load's bytes.
+use Rattle.std.proofs.Common.{◌≡◌, ℕ, zero, suc, ◌+◌, ◌-◌, ◌<◌, ◌≤◌, List, [], ◌∷◌, ◌++◌, true, Some, sym, subst, ap, ◌∙◌, ⊎_elim, arith, length, length-append, get_or, max, refl, replicate, set}
+use Rattle.std.specs.Prelude.{nat_lt, slice_get, slice_index_or}
+use Rattle.std.proofs.lemmas.Bool.{cases_eq, cases_lt}
 use Rattle.std.proofs.lemmas.Grind.{get_or-set_at}
-use Rattle.std.proofs.lemmas.List.{get_or-set_other}
+use Rattle.std.proofs.lemmas.List.{get_or-set_other, get_or_append_left, get_or_push}
+use Rattle.std.proofs.lemmas.Option.{get_or_from_slice_get, none-some, same_Some, slice_get-get_or, slice_get_within}
 use Rattle.memory_model.specs.declared.operation.Operation.{Operation}
-use Rattle.memory_model.specs.Operations.{reads, same, stores_to}
-use Rattle.memory_model.specs.Order.{candidates, source}
-use Rattle.rvwmo_order.specs.Ranks.{GivesRanks, GivesSources, HasRank}
+use Rattle.memory_model.specs.Operations.{reads}
+use Rattle.memory_model.specs.Order.{source}
+use Rattle.rvwmo_order.specs.Ranks.{AreDistinctOperations, GivesRanks, HasRank}
+use Rattle.rvwmo_order.specs.Sourcing.{GivesOwn, IsLast, all_come}
+use Rattle.rvwmo_order.proofs.LastStores.{later_source}
 
--- ---- the source is told by the name of the load
+-- ---- one load after the other
 
-candidates_named : (order : List Operation) (a b : Operation) (x : ℕ) → a.hart ≡ b.hart → a.place ≡ b.place → candidates order a x ≡ candidates order b x
-candidates_named [] a b x e f = refl
-candidates_named (s ∷ rest) a b x e f =
-    ap (λ (h : ℕ). at h a.place (candidates rest a x)) e
-    ∙ (ap (λ (p : ℕ). at b.hart p (candidates rest a x)) f
-    ∙ ap (at b.hart b.place) (candidates_named rest a b x e f))
+-- what is kept of each load so far are the ranks of its bytes' sources
+abbrev pub EachGiven : List Operation → List (List ℕ) → Type 0
+EachGiven order kept = (p : ℕ) (a : Operation) (ranks : List ℕ) → slice_get kept p ≡ Some ranks → slice_get order p ≡ Some a → reads a.kind ≡ true → GivesRanks order a ranks
+
+pub given_none : (order : List Operation) (kept : List (List ℕ)) → kept ≡ [] → EachGiven order kept
+given_none order kept e p a ranks f g r = absurd (none-some ranks (sym (ap (λ (xs : List (List ℕ)). slice_get xs p) e) ∙ f))
+
+pub given_more : (order : List Operation) (kept : List (List ℕ)) (ranks : List ℕ) (k : ℕ) (a : Operation) → EachGiven order kept → length kept ≡ k → slice_get order k ≡ Some a → (reads a.kind ≡ true → GivesRanks order a ranks) → EachGiven order (kept ++ ranks ∷ [])
+given_more order kept ranks k a g count there found p b other h f r =
+    let inside = slice_get_within (kept ++ ranks ∷ []) p other h in
+    let at : get_or (kept ++ ranks ∷ []) p [] ≡ other = get_or_from_slice_get (kept ++ ranks ∷ []) p other [] h in
+    ⊎_elim (λ l. before l at) (λ l. last l inside at) (cases_lt p (length kept))
   where
-    at : ℕ → ℕ → List Operation → List Operation
-    at h p found = cond (nat_eq s.hart h && nat_eq s.place p) (filter (λ t. stores_to x t && (nat_eq t.hart h && nat_lt t.place p)) rest) (cond (stores_to x s) (s ∷ found) found)
+    before : p < length kept → get_or (kept ++ ranks ∷ []) p [] ≡ other → GivesRanks order b other
+    before l at = g p b other (slice_get-get_or kept p [] l ∙ ap Some (sym (get_or_append_left kept (ranks ∷ []) [] p l) ∙ at)) f r
 
-source_named : (order : List Operation) (a b : Operation) (x : ℕ) → same a b ≡ true → source order a x ≡ source order b x
-source_named order a b x e =
-    let p = and_parts (nat_eq a.hart b.hart) (nat_eq a.place b.place) e in
-    ap (last_or None) (candidates_named order a b x (eqb-true a.hart b.hart p.0) (eqb-true a.place b.place p.1))
+    last : length kept ≤ p → p < length (kept ++ ranks ∷ []) → get_or (kept ++ ranks ∷ []) p [] ≡ other → GivesRanks order b other
+    last l inside at =
+        let long = length-append kept (ranks ∷ []) in
+        let is : length kept ≡ p = omega (arith, l, inside, long) in
+        let place : k ≡ p = sym count ∙ is in
+        let it : ranks ≡ other = sym (get_or_push kept ranks [] p is) ∙ at in
+        let one : a ≡ b = same_Some a b (sym there ∙ (ap (slice_get order) place ∙ f)) in
+        subst (GivesRanks order b) it (subst (λ (y : Operation). GivesRanks order y ranks) one (found (ap (λ (y : Operation). reads y.kind) one ∙ r)))
 
--- what is kept at a place are the ranks of the load there, and of each of its name and bytes
-pub kept_named : (order : List Operation) (kept : List (List ℕ)) (p : ℕ) (a load : Operation) (ranks : List ℕ) → GivesSources order kept → slice_get kept p ≡ Some ranks → slice_get order p ≡ Some a → reads a.kind ≡ true → same a load ≡ true → a.address ≡ load.address → a.size ≡ load.size
-    → GivesRanks order load ranks
-kept_named order kept p a load ranks g e f r s at long = record {
-  each = λ i few within.
-      let byte : a.address + i ≡ load.address + i = ap (λ (n : ℕ). n + i) at in
-      subst (λ (o : Option Operation). HasRank order o (slice_index_or ranks i 0)) (ap (source order a) byte ∙ source_named order a load (load.address + i) s) ((g p a ranks e f r).each i few (omega (arith, within, long)));
-}
+-- the later of both candidates of each byte
+pub ranks_given : (order : List Operation) (p : ℕ) (a : Operation) (latest : ℕ → ℕ) (all : List (List ℕ)) (own ranks : List ℕ) → AreDistinctOperations order → slice_get order p ≡ Some a → a.size ≤ 4 → ((x : ℕ) → IsLast order x (λ j s. nat_lt j p) (latest x))
+    → GivesOwn order all all_come → slice_get all p ≡ Some own → ((i : ℕ) → i < a.size → slice_index_or ranks i 0 ≡ max (latest (a.address + i)) (slice_index_or own i 0)) → GivesRanks order a ranks
+ranks_given order p a latest all own ranks d e small l g f is =
+    record { each = λ i within. later_source order a (a.address + i) p (latest (a.address + i)) (slice_index_or own i 0) (slice_index_or ranks i 0) d e (l (a.address + i)) (g.each p i a own e f (omega (arith, small, within)) within) (is i within) }
 
--- ---- a byte by the ranks of the first ones
+-- ---- nothing noted yet
 
-pub byte_ranked : (order : List Operation) (load : Operation) (ranks : List ℕ) (offset x : ℕ) → GivesRanks order load ranks → offset < 4 → offset < load.size → x ≡ load.address + offset → HasRank order (source order load x) (slice_index_or ranks offset 0)
-byte_ranked order load ranks offset x g few within at = subst (λ (y : ℕ). HasRank order (source order load y) (slice_index_or ranks offset 0)) (sym at) (g.each offset few within)
+zero_in : (z n i : ℕ) → z ≡ 0 → slice_index_or (replicate n z) i 0 ≡ 0
+zero_in z zero i e = refl
+zero_in z (suc n) zero e = e
+zero_in z (suc n) (suc i) e = zero_in z n i e
+
+same_in : (n : ℕ) (zeros : List ℕ) (p : ℕ) (ranks : List ℕ) → slice_get (replicate n zeros) p ≡ Some ranks → ranks ≡ zeros
+same_in zero zeros p ranks e = absurd (none-some ranks e)
+same_in (suc n) zeros zero ranks e = sym (same_Some zeros ranks e)
+same_in (suc n) zeros (suc p) ranks e = same_in n zeros p ranks e
+
+pub zeros_only : (own : List (List ℕ)) (n : ℕ) → own ≡ replicate n (replicate 4 0) → (p : ℕ) (ranks : List ℕ) (i : ℕ) → slice_get own p ≡ Some ranks → slice_index_or ranks i 0 ≡ 0
+zeros_only own n is p ranks i e = ap (λ (xs : List ℕ). slice_index_or xs i 0) (same_in n (replicate 4 0) p ranks (ap (λ (xs : List (List ℕ)). slice_get xs p) (sym is) ∙ e)) ∙ zero_in 0 4 i refl
+
+-- ---- a byte by the ranks
+
+pub byte_ranked : (order : List Operation) (load : Operation) (ranks : List ℕ) (x : ℕ) → GivesRanks order load ranks → load.address ≤ x → x < load.address + load.size → HasRank order (source order load x) (slice_index_or ranks (x - load.address) 0)
+byte_ranked order load ranks x g low inside =
+    let at : load.address + (x - load.address) ≡ x = omega (arith, low) in
+    subst (λ (y : ℕ). HasRank order (source order load y) (slice_index_or ranks (x - load.address) 0)) at (g.each (x - load.address) (omega (arith, low, inside)))
 
 -- ---- one more byte of four
 

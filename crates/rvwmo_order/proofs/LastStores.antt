@@ -11,9 +11,9 @@ use Rattle.memory_model.specs.declared.operation.Kind.TheVariants.{Load}
 use Rattle.memory_model.specs.Operations.{precedes, same, stores_to}
 use Rattle.memory_model.specs.Order.{position_in, source}
 use Rattle.memory_model.specs.Verdict.{name_of}
-use Rattle.rvwmo_order.specs.Ranks.{AreDistinctOperations, GivesSources, HasRank, ranked}
+use Rattle.rvwmo_order.specs.Ranks.{AreDistinctOperations, HasRank, ranked}
 use Rattle.trace_operations.specs.Indexed.{is_seen, known, place_from, stored_from}
-use Rattle.rvwmo_order.specs.Sourcing.{AreNumbers, GivesUpTo, IsLast, Stands, StandsAt, is_come, is_known, is_own_before, nothing_come, raised}
+use Rattle.rvwmo_order.specs.Sourcing.{AreNumbers, GivesOwn, IsLast, Stands, StandsAt, all_come, is_come, is_known, is_own_before, raised}
 use Rattle.trace_operations.specs.declared.stored.Stored.{Stored}
 use Rattle.rvwmo_order.proofs.Ranks.{position_at, ranked_at}
 use Rattle.trace_operations.proofs.Indexed.{place_known, source_seen}
@@ -101,48 +101,22 @@ before_none order kept none x = record {
   last = λ j w. let h : (j < 0) ⊎ (0 ≤ j) = cases_lt j 0 in ⊎_elim (λ l. absurd (omega (arith, l))) (λ l. absurd (true≢false (sym w.passes ∙ le-ltb j 0 l))) h;
 }
 
--- what is kept of each operation so far
-abbrev pub EachUpTo : List Operation → List (List ℕ) → (Operation → Bool) → Type 0
-EachUpTo order sources come = (p i : ℕ) (a : Operation) (ranks : List ℕ) → slice_get order p ≡ Some a → slice_get sources p ≡ Some ranks → i < 4 → i < a.size → IsLast order (a.address + i) (is_known come p a) (slice_index_or ranks i 0)
-
-pub each_none : (order : List Operation) (sources : List (List ℕ)) → sources ≡ [] → EachUpTo order sources nothing_come
-each_none order sources e p i a ranks f g few within = absurd (none-some ranks (sym (ap (λ (xs : List (List ℕ)). slice_get xs p) e) ∙ g))
-
-pub sources_more : (order : List Operation) (kept : List (List ℕ)) (ranks : List ℕ) (k : ℕ) (a : Operation) (latest : ℕ → ℕ) → EachUpTo order kept nothing_come → length kept ≡ k → slice_get order k ≡ Some a → ((x : ℕ) → IsLast order x (λ j s. nat_lt j k) (latest x))
-    → ((i : ℕ) → i < 4 → i < a.size → slice_index_or ranks i 0 ≡ latest (a.address + i)) → EachUpTo order (kept ++ ranks ∷ []) nothing_come
-sources_more order kept ranks k a latest g count there inv own p i b other f h few within =
-    let inside = slice_get_within (kept ++ ranks ∷ []) p other h in
-    let at : get_or (kept ++ ranks ∷ []) p [] ≡ other = get_or_from_slice_get (kept ++ ranks ∷ []) p other [] h in
-    ⊎_elim (λ l. before l at) (λ l. last l inside at) (cases_lt p (length kept))
-  where
-    or_none : (c : Bool) → (c || false) ≡ c
-    or_none true = refl
-    or_none false = refl
-
-    before : p < length kept → get_or (kept ++ ranks ∷ []) p [] ≡ other → IsLast order (b.address + i) (is_known nothing_come p b) (slice_index_or other i 0)
-    before l at = g p i b other f (slice_get-get_or kept p [] l ∙ ap Some (sym (get_or_append_left kept (ranks ∷ []) [] p l) ∙ at)) few within
-
-    last : length kept ≤ p → p < length (kept ++ ranks ∷ []) → get_or (kept ++ ranks ∷ []) p [] ≡ other → IsLast order (b.address + i) (is_known nothing_come p b) (slice_index_or other i 0)
-    last l inside at =
-        let long = length-append kept (ranks ∷ []) in
-        let is : length kept ≡ p = omega (arith, l, inside, long) in
-        let place : k ≡ p = sym count ∙ is in
-        let it : ranks ≡ other = sym (get_or_push kept ranks [] p is) ∙ at in
-        let one : a ≡ b = same_Some a b (sym there ∙ (ap (slice_get order) place ∙ f)) in
-        let rank : latest (b.address + i) ≡ slice_index_or other i 0 = sym (subst (λ (y : Operation). (i : ℕ) → i < 4 → i < y.size → slice_index_or ranks i 0 ≡ latest (y.address + i)) one own i few within) ∙ ap (λ (rs : List ℕ). slice_index_or rs i 0) it in
-        let known_last : IsLast order (b.address + i) (λ j s. nat_lt j p) (latest (b.address + i)) = subst (λ (n : ℕ). IsLast order (b.address + i) (λ j s. nat_lt j n) (latest (b.address + i))) place (inv (b.address + i)) in
-        subst (IsLast order (b.address + i) (is_known nothing_come p b)) rank (last_same order (b.address + i) (λ j s. nat_lt j p) (is_known nothing_come p b) (latest (b.address + i)) known_last (λ j s there stores. or_none (nat_lt j p)))
-
 -- ---- the walks along the harts' lists
 
-pub gives_same : (order : List Operation) (sources : List (List ℕ)) (old new : Operation → Bool) → GivesUpTo order sources old → ((j : ℕ) (a : Operation) → slice_get order j ≡ Some a → new a ≡ old a) → GivesUpTo order sources new
-gives_same order sources old new g alike = record {
+pub gives_same : (order : List Operation) (own : List (List ℕ)) (old new : Operation → Bool) → GivesOwn order own old → ((j : ℕ) (a : Operation) → slice_get order j ≡ Some a → new a ≡ old a) → GivesOwn order own new
+gives_same order own old new g alike = record {
   many = g.many;
-  each = λ p i a ranks e f few within. last_same order (a.address + i) (is_known old p a) (is_known new p a) (slice_index_or ranks i 0) (g.each p i a ranks e f few within) (λ j s there stores. ap (λ (b : Bool). nat_lt j p || (b && precedes s a)) (alike p a e));
+  each = λ p i a ranks e f few within. last_same order (a.address + i) (is_known old a) (is_known new a) (slice_index_or ranks i 0) (g.each p i a ranks e f few within) (λ j s there stores. ap (λ (b : Bool). b && precedes s a) (alike p a e));
 }
 
-pub nothing_yet : (order : List Operation) (sources : List (List ℕ)) → GivesUpTo order sources nothing_come → GivesUpTo order sources (is_come 0 0)
-nothing_yet order sources g = gives_same order sources nothing_come (is_come 0 0) g (λ j a e. none a)
+pub nothing_yet : (order : List Operation) (own : List (List ℕ)) → length own ≡ length order → ((p : ℕ) (ranks : List ℕ) (i : ℕ) → slice_get own p ≡ Some ranks → slice_index_or ranks i 0 ≡ 0) → GivesOwn order own (is_come 0 0)
+nothing_yet order own many zeros = record {
+  many = many;
+  each = λ p i a ranks e f few within. record {
+    there = λ some. let z = zeros p ranks i f in absurd (omega (arith, z, some));
+    last = λ j w. absurd (true≢false (sym (and_parts (is_come 0 0 a) (precedes w.store a) w.passes).0 ∙ none a));
+  };
+}
   where
     and_no : (b : Bool) → (b && false) ≡ false
     and_no true = refl
@@ -171,7 +145,7 @@ own_none order hart kept none x = record {
 }
 
 -- an empty place of the list
-pub gap_come : (order : List Operation) (sources : List (List ℕ)) (hart k : ℕ) (list : List ℕ) → AreNumbers order hart list → slice_index_or list k 0 ≡ 0 → GivesUpTo order sources (is_come hart k) → GivesUpTo order sources (is_come hart (k + 1))
+pub gap_come : (order : List Operation) (sources : List (List ℕ)) (hart k : ℕ) (list : List ℕ) → AreNumbers order hart list → slice_index_or list k 0 ≡ 0 → GivesOwn order sources (is_come hart k) → GivesOwn order sources (is_come hart (k + 1))
 gap_come order sources hart k list n e g = gives_same order sources (is_come hart k) (is_come hart (k + 1)) g (λ j a there. ap (λ (b : Bool). nat_lt a.hart hart || b) (own_other hart k a (apart j a there)))
   where
     apart : (j : ℕ) (a : Operation) → slice_get order j ≡ Some a → a.hart ≡ hart → a.place ≡ k → ⊥
@@ -214,50 +188,40 @@ own_next order hart k rank list kept now n e some all inv x = go (n.there k (ome
             apart : s.hart ≡ hart → s.place ≡ k → ⊥
             apart h p = let f = n.each j s there h in let at = ap (λ (m : ℕ). slice_index_or list m 0) p in is (omega (arith, f, at, e))
 
-pub come_next : (order : List Operation) (old new : List (List ℕ)) (hart k rank : ℕ) (list : List ℕ) (kept now : ℕ → ℕ) → AreNumbers order hart list → slice_index_or list k 0 ≡ rank → 0 < rank
-    → length new ≡ length old → ((a : Operation) (was got : List ℕ) (i : ℕ) → slice_get order (rank - 1) ≡ Some a → slice_get old (rank - 1) ≡ Some was → slice_get new (rank - 1) ≡ Some got → i < 4 → i < a.size → slice_index_or got i 0 ≡ max (slice_index_or was i 0) (kept (a.address + i)))
-    → ((p : ℕ) → (p ≡ rank - 1 → ⊥) → slice_get new p ≡ slice_get old p) → ((x : ℕ) → IsLast order x (is_own_before hart k) (kept x)) → GivesUpTo order old (is_come hart k) → GivesUpTo order new (is_come hart (k + 1))
-come_next order old new hart k rank list kept now n e some many own others inv g = record { many = many ∙ g.many; each = λ p i b ranks f h few within. ⊎_elim (here p i b ranks f h few within (n.there k (omega (arith, e, some)))) (elsewhere p i b ranks f h few within) (cases_eq p (rank - 1)) }
+pub come_next : (order : List Operation) (old new : List (List ℕ)) (hart k rank : ℕ) (list : List ℕ) (kept : ℕ → ℕ) → AreNumbers order hart list → slice_index_or list k 0 ≡ rank → 0 < rank
+    → length new ≡ length old → ((a : Operation) (got : List ℕ) (i : ℕ) → slice_get order (rank - 1) ≡ Some a → slice_get new (rank - 1) ≡ Some got → i < 4 → i < a.size → slice_index_or got i 0 ≡ kept (a.address + i))
+    → ((p : ℕ) → (p ≡ rank - 1 → ⊥) → slice_get new p ≡ slice_get old p) → ((x : ℕ) → IsLast order x (is_own_before hart k) (kept x)) → GivesOwn order old (is_come hart k) → GivesOwn order new (is_come hart (k + 1))
+come_next order old new hart k rank list kept n e some many own others inv g = record { many = many ∙ g.many; each = λ p i b ranks f h few within. ⊎_elim (here p i b ranks f h few within (n.there k (omega (arith, e, some)))) (elsewhere p i b ranks f h few within) (cases_eq p (rank - 1)) }
   where
-    lt_self : (m : ℕ) → nat_lt m m ≡ false
-    lt_self m = le-ltb m m (omega arith)
-
-    here : (p i : ℕ) (b : Operation) (ranks : List ℕ) → slice_get order p ≡ Some b → slice_get new p ≡ Some ranks → i < 4 → i < b.size → StandsAt order hart k (slice_index_or list k 0 - 1) → p ≡ rank - 1 → IsLast order (b.address + i) (is_known (is_come hart (k + 1)) p b) (slice_index_or ranks i 0)
+    here : (p i : ℕ) (b : Operation) (ranks : List ℕ) → slice_get order p ≡ Some b → slice_get new p ≡ Some ranks → i < 4 → i < b.size → StandsAt order hart k (slice_index_or list k 0 - 1) → p ≡ rank - 1 → IsLast order (b.address + i) (is_known (is_come hart (k + 1)) b) (slice_index_or ranks i 0)
     here p i b ranks f h few within w is =
         let at : slice_get order (rank - 1) ≡ Some b = ap (slice_get order) (sym is) ∙ f in
         let it : w.op ≡ b = same_Some w.op b (sym w.there ∙ (ap (λ (m : ℕ). slice_get order (m - 1)) e ∙ at)) in
         let of_hart : b.hart ≡ hart = sym (ap (λ (y : Operation). y.hart) it) ∙ w.of_hart in
         let of_place : b.place ≡ k = sym (ap (λ (y : Operation). y.place) it) ∙ w.of_place in
-        let inside = slice_get_within new p ranks h in
-        let was : slice_get old p ≡ Some (get_or old p []) = slice_get-get_or old p [] (omega (arith, inside, many)) in
-        let value : slice_index_or ranks i 0 ≡ max (slice_index_or (get_or old p []) i 0) (kept (b.address + i)) = own b (get_or old p []) ranks i at (ap (slice_get old) (sym is) ∙ was) (ap (slice_get new) (sym is) ∙ h) few within in
-        subst (IsLast order (b.address + i) (is_known (is_come hart (k + 1)) p b)) (sym value) (last_both order (b.address + i) (is_known (is_come hart k) p b) (is_own_before hart k) (is_known (is_come hart (k + 1)) p b) (slice_index_or (get_or old p []) i 0) (kept (b.address + i)) (g.each p i b (get_or old p []) f was few within) (inv (b.address + i)) (λ j s there stores. test of_hart of_place j s))
+        let value : slice_index_or ranks i 0 ≡ kept (b.address + i) = own b ranks i at (ap (slice_get new) (sym is) ∙ h) few within in
+        subst (IsLast order (b.address + i) (is_known (is_come hart (k + 1)) b)) (sym value) (last_same order (b.address + i) (is_own_before hart k) (is_known (is_come hart (k + 1)) b) (kept (b.address + i)) (inv (b.address + i)) (λ j s there stores. test of_hart of_place j s))
       where
-        by_name : (c : Bool) (h q : ℕ) (j : ℕ) (s : Operation) → h ≡ hart → q ≡ k → (nat_lt j p || ((nat_lt h hart || (nat_eq h hart && nat_lt q (k + 1))) && (nat_eq s.hart h && nat_lt s.place q))) ≡ ((nat_lt j p || ((nat_lt h hart || (nat_eq h hart && nat_lt q k)) && (nat_eq s.hart h && nat_lt s.place q))) || (nat_eq s.hart hart && nat_lt s.place k))
-        by_name c h q j s of_hart of_place =
+        by_name : (h q : ℕ) (s : Operation) → h ≡ hart → q ≡ k → ((nat_lt h hart || (nat_eq h hart && nat_lt q (k + 1))) && (nat_eq s.hart h && nat_lt s.place q)) ≡ (nat_eq s.hart hart && nat_lt s.place k)
+        by_name h q s of_hart of_place =
             let less : nat_lt h hart ≡ false = le-ltb h hart (omega (arith, of_hart)) in
-            let own : nat_eq h hart ≡ true = eq-eqb h hart of_hart in
+            let is_own : nat_eq h hart ≡ true = eq-eqb h hart of_hart in
             let next : nat_lt q (k + 1) ≡ true = lt-ltb q (k + 1) (omega (arith, of_place)) in
-            let not_yet : nat_lt q k ≡ false = le-ltb q k (omega (arith, of_place)) in
             let hs : nat_eq s.hart h ≡ nat_eq s.hart hart = ap (nat_eq s.hart) of_hart in
             let ps : nat_lt s.place q ≡ nat_lt s.place k = ap (nat_lt s.place) of_place in
-            rw (less, own, next, not_yet, hs, ps) (bools (nat_lt j p) (nat_eq s.hart hart && nat_lt s.place k))
-          where
-            bools : (a c : Bool) → (a || c) ≡ ((a || false) || c)
-            bools true c = refl
-            bools false c = refl
+            rw (less, is_own, next, hs, ps) refl
 
-        test : b.hart ≡ hart → b.place ≡ k → (j : ℕ) (s : Operation) → is_known (is_come hart (k + 1)) p b j s ≡ (is_known (is_come hart k) p b j s || is_own_before hart k j s)
-        test of_hart of_place j s = by_name true b.hart b.place j s of_hart of_place
+        test : b.hart ≡ hart → b.place ≡ k → (j : ℕ) (s : Operation) → is_known (is_come hart (k + 1)) b j s ≡ is_own_before hart k j s
+        test of_hart of_place j s = by_name b.hart b.place s of_hart of_place
 
-    elsewhere : (p i : ℕ) (b : Operation) (ranks : List ℕ) → slice_get order p ≡ Some b → slice_get new p ≡ Some ranks → i < 4 → i < b.size → (p ≡ rank - 1 → ⊥) → IsLast order (b.address + i) (is_known (is_come hart (k + 1)) p b) (slice_index_or ranks i 0)
-    elsewhere p i b ranks f h few within is = last_same order (b.address + i) (is_known (is_come hart k) p b) (is_known (is_come hart (k + 1)) p b) (slice_index_or ranks i 0) (g.each p i b ranks f (sym (others p is) ∙ h) few within) (λ j s there stores. ap (λ (c : Bool). nat_lt j p || ((nat_lt b.hart hart || c) && precedes s b)) (own_other hart k b apart))
+    elsewhere : (p i : ℕ) (b : Operation) (ranks : List ℕ) → slice_get order p ≡ Some b → slice_get new p ≡ Some ranks → i < 4 → i < b.size → (p ≡ rank - 1 → ⊥) → IsLast order (b.address + i) (is_known (is_come hart (k + 1)) b) (slice_index_or ranks i 0)
+    elsewhere p i b ranks f h few within is = last_same order (b.address + i) (is_known (is_come hart k) b) (is_known (is_come hart (k + 1)) b) (slice_index_or ranks i 0) (g.each p i b ranks f (sym (others p is) ∙ h) few within) (λ j s there stores. ap (λ (c : Bool). (nat_lt b.hart hart || c) && precedes s b) (own_other hart k b apart))
       where
         apart : b.hart ≡ hart → b.place ≡ k → ⊥
         apart oh op = let m = n.each p b f oh in let at = ap (λ (m : ℕ). slice_index_or list m 0) op in is (omega (arith, m, at, e))
 
 -- at the end of the list
-pub hart_come : (order : List Operation) (sources : List (List ℕ)) (hart k : ℕ) (list : List ℕ) → AreNumbers order hart list → length list ≤ k → GivesUpTo order sources (is_come hart k) → GivesUpTo order sources (is_come (hart + 1) 0)
+pub hart_come : (order : List Operation) (sources : List (List ℕ)) (hart k : ℕ) (list : List ℕ) → AreNumbers order hart list → length list ≤ k → GivesOwn order sources (is_come hart k) → GivesOwn order sources (is_come (hart + 1) 0)
 hart_come order sources hart k list n long g = gives_same order sources (is_come hart k) (is_come (hart + 1) 0) g (λ j a there. ⊎_elim (own j a there) (other a) (cases_eq a.hart hart))
   where
     and_no : (b : Bool) → (b && false) ≡ false
@@ -485,8 +449,13 @@ found_none order x seen = record {
 pub found_all : (order : List Operation) (x p rank : ℕ) (seen : ℕ → Operation → Bool) → length order ≤ p → IsLast order x (λ j t. nat_lt j p && seen j t) rank → IsLast order x seen rank
 found_all order x p rank seen long l = last_same order x (λ j t. nat_lt j p && seen j t) seen rank l (λ j t there stores. sym (ap (λ (b : Bool). b && seen j t) (let inside = slice_get_within order j t there in lt-ltb j p (omega (arith, inside, long)))))
 
--- what the walks have found is what each load's first bytes come from
-pub sources_found : (order : List Operation) (sources : List (List ℕ)) (harts : ℕ) → AreDistinctOperations order → GivesUpTo order sources (is_come harts 0) → ((j : ℕ) (a : Operation) → slice_get order j ≡ Some a → a.hart < harts) → GivesSources order sources
-sources_found order sources harts d g few p a ranks e f r = record {
-  each = λ i h within. source_last order a (a.address + i) p (slice_index_or ranks i 0) (sym (position_at order p a d f)) (last_same order (a.address + i) (is_known (is_come harts 0) p a) (λ j s. nat_lt j p || precedes s a) (slice_index_or ranks i 0) (g.each p i a ranks f e h within) (λ j s there stores. ap (λ (b : Bool). nat_lt j p || ((b || (nat_eq a.hart harts && nat_lt a.place 0)) && precedes s a)) (sym (lt-ltb a.hart harts (few p a f)))));
-}
+-- ---- the last of both walks
+
+-- once all have come
+pub own_found : (order : List Operation) (own : List (List ℕ)) (harts : ℕ) → GivesOwn order own (is_come harts 0) → ((j : ℕ) (a : Operation) → slice_get order j ≡ Some a → a.hart < harts) → GivesOwn order own all_come
+own_found order own harts g few = gives_same order own (is_come harts 0) all_come g (λ j a there. sym (ap (λ (b : Bool). b || (nat_eq a.hart harts && nat_lt a.place 0)) (lt-ltb a.hart harts (few j a there))))
+
+-- of the last store before a load in the order, and the last that precedes it in program order, the later is the source of its byte
+pub later_source : (order : List Operation) (a : Operation) (x p before own rank : ℕ) → AreDistinctOperations order → slice_get order p ≡ Some a → IsLast order x (λ j s. nat_lt j p) before → IsLast order x (is_known all_come a) own → rank ≡ max before own → HasRank order (source order a x) rank
+later_source order a x p before own rank d e l m is =
+    source_last order a x p rank (sym (position_at order p a d e)) (subst (IsLast order x (λ j s. nat_lt j p || precedes s a)) (sym is) (last_both order x (λ j s. nat_lt j p) (is_known all_come a) (λ j s. nat_lt j p || precedes s a) before own l m (λ j s there stores. refl)))

@@ -1,6 +1,7 @@
 pub mod Back
 pub mod Behind
 pub mod Bounded
+pub mod Bytes
 pub mod Clear
 pub mod Covered
 pub mod Faults
@@ -12,6 +13,7 @@ pub mod Given
 pub mod Judged
 pub mod Kept
 pub mod LastStores
+pub mod Looks
 pub mod Lowest
 pub mod Marks
 pub mod Noted
@@ -27,4 +29,5 @@ pub mod Sweeps
 pub mod Touches
 pub mod Unbroken
 pub mod Verdicts
+pub mod Whole
 pub mod Words

@@ -12,9 +12,11 @@ use Rattle.memory_model.specs.History.{History}
 use Rattle.memory_model.specs.OpId.{OpId}
 use Rattle.memory_model.specs.Verdict.{fault_in}
 use Rattle.rvwmo_order.specs.Answers.{IsSoundVerdict, fault_told}
+use Rattle.rvwmo_order.specs.Ranks.{AreDistinctOperations}
 use Rattle.rvwmo_order.specs.Scans.{judged}
 use Rattle.rvwmo_order.specs.declared.verdict.Verdict.{Verdict}
 use Rattle.rvwmo_order.specs.declared.verdict.Verdict.TheVariants.{Legal}
+use Rattle.rvwmo_order.proofs.Clear.{distinct_once}
 use Rattle.rvwmo_order.proofs.Faults.{sound}
 use Rattle.rvwmo_order.proofs.First.{first_told}
 use Rattle.rvwmo_order.proofs.Judged.{judged-from_legal, legal-from_judged}
@@ -23,6 +25,9 @@ distinct_in : (t : History) (order : List OpId) → has_each_operation_once t or
 distinct_in t order e =
     let s = and_parts (list_all (is_among (names_in t)) order && is_distinct order) (list_all (is_among order) (names_in t)) e in
     operations_distinct t order (Pairwise-from_is_distinct order (and_parts (list_all (is_among (names_in t)) order) (is_distinct order) s.0).1)
+
+pub distinct_operations : (t : History) (order : List OpId) → has_each_operation_once t order ≡ true → AreDistinctOperations (operations_at (instructions t) order)
+distinct_operations t order e = distinct_once (operations_at (instructions t) order) (distinct_in t order e)
 
 pub legal_verdict : (model : MemoryModel) (t : History) (order : List OpId) (v : Verdict) → v ≡ judged model (image_of t) (instructions t) (operations_at (instructions t) order) → (v ≡ Legal) ↔ IsLegalOrder model t order
 legal_verdict model t order v e = (

@@ -11,7 +11,7 @@ use Rattle.memory_model.specs.Order.{position_in, source}
 use Rattle.memory_model.specs.Rules.{asked_by, is_lr_or_sc, items_of}
 use Rattle.rvwmo_order.specs.Carried.{carried_behind, greatest, nothing_carried}
 use Rattle.rvwmo_order.specs.Rules.{rule_of}
-use Rattle.rvwmo_order.specs.Ranks.{rank_of}
+use Rattle.rvwmo_order.specs.Ranks.{IsIn, rank_of}
 use Rattle.rvwmo_order.specs.Passed.{fenced_before, none_passed, passed_behind}
 use Rattle.rvwmo_order.specs.Touched.{but, touch_behind, touch_in, untouched}
 use Rattle.rvwmo_order.specs.declared.bounds.rows.Row.{Row}
@@ -93,16 +93,21 @@ pub record RanksEach (model : MemoryModel) (harts : List (List Item)) (order : L
 
 -- ---- orders of a trace's operations
 
--- an operation with bytes is the one of the instruction at its place, and an LR of an LR alone
+-- an operation with one to four bytes is the one of the instruction at its place, and an LR of an LR alone
 pub record IsGiven (items : List Item) (a : Operation) : Type 0 where
   pub item : Item
   pub there : slice_get items a.place ≡ Some item
   pub gives : item.operation ≡ Some a
   pub has_bytes : 0 < a.size
+  pub small : a.size ≤ 4
   pub of_lr : is_lr a.kind ≡ true → is_lr_or_sc item.instr ≡ true
 
 abbrev pub GivesEach : List (List Item) → List Operation → Type 0
 GivesEach harts order = AllByRecursion (λ (a : Operation). IsGiven (items_of harts a.hart) a) order
+
+-- the order has the operation of each instruction
+abbrev pub HasEach : List (List Item) → List Operation → Type 0
+HasEach harts order = (hart place : ℕ) (m : Item) (a : Operation) → slice_get (items_of harts hart) place ≡ Some m → m.operation ≡ Some a → IsIn order a
 
 -- ---- walks
 

@@ -2,6 +2,7 @@ pub mod Answers
 pub mod Bounds
 pub mod Carried
 pub mod Codes
+pub mod Looks
 pub mod Lows
 pub mod Marks
 pub mod Passed

@@ -22,10 +22,23 @@ pub record HasRank (order : List Operation) (o : Option Operation) (rank : ℕ) 
   pub within : rank ≤ length order
   pub there : ranked order rank ≡ o
 
--- these are the ranks of the stores that a load's first bytes come from
+-- an order has an operation, at the place of its name
+abbrev pub IsIn : List Operation → Operation → Type 0
+IsIn order a = slice_get order (position_in order a) ≡ Some a
+
+-- it has each of these
+abbrev pub AreIn : List Operation → List Operation → Type 0
+AreIn order among = AllByRecursion (IsIn order) among
+
+-- none has more than four bytes
+abbrev pub AreSmall : List Operation → Type 0
+AreSmall order = AllByRecursion (λ (a : Operation). a.size ≤ 4) order
+
+-- these are the ranks of the stores that a load's bytes come from
 pub record GivesRanks (order : List Operation) (a : Operation) (ranks : List ℕ) : Type 0 where
-  pub each : (i : ℕ) → i < 4 → i < a.size → HasRank order (source order a (a.address + i)) (slice_index_or ranks i 0)
+  pub each : (i : ℕ) → i < a.size → HasRank order (source order a (a.address + i)) (slice_index_or ranks i 0)
 
 -- what is kept of each load are those
-abbrev pub GivesSources : List Operation → List (List ℕ) → Type 0
-GivesSources order kept = (p : ℕ) (a : Operation) (ranks : List ℕ) → slice_get kept p ≡ Some ranks → slice_get order p ≡ Some a → reads a.kind ≡ true → GivesRanks order a ranks
+pub record GivesSources (order : List Operation) (kept : List (List ℕ)) : Type 0 where
+  pub many : length kept ≡ length order
+  pub each : (p : ℕ) (a : Operation) (ranks : List ℕ) → slice_get kept p ≡ Some ranks → slice_get order p ≡ Some a → reads a.kind ≡ true → GivesRanks order a ranks

@@ -1,12 +1,12 @@
 -- What the checker's scans find, as functions on lists. What an order is judged by stands in memory_model.
-use Rattle.std.specs.Prelude.{ℕ, Bool, ◌&&◌, not, List, [], ◌∷◌, Option, Some, None, find}
-use Rattle.std.specs.List.{list_any}
+use Rattle.std.specs.Prelude.{ℕ, Bool, ◌&&◌, ◌||◌, ◌==◌, not, List, [], ◌∷◌, Option, Some, None, find}
+use Rattle.std.specs.List.{list_all, list_any}
 use Rattle.machine_types.specs.declared.model.MemoryModel.{MemoryModel}
 use Rattle.memory_model.specs.declared.operation.Operation.{Operation}
 use Rattle.memory_model.specs.Items.{Item}
-use Rattle.memory_model.specs.Legal.{is_atomic, returns_sources}
+use Rattle.memory_model.specs.Legal.{behind, is_atomic, returns_sources, up_to}
 use Rattle.memory_model.specs.Dependencies.{between}
-use Rattle.memory_model.specs.Operations.{touches}
+use Rattle.memory_model.specs.Operations.{same, stores_to, touches}
 use Rattle.memory_model.specs.Order.{same_source, source}
 use Rattle.memory_model.specs.Rules.{asked_by, has_store_to, items_of, paired}
 use Rattle.memory_model.specs.Verdict.{name_of}
@@ -17,9 +17,19 @@ use Rattle.rvwmo_order.specs.declared.verdict.Code.TheVariants.{Order, LoadValue
 use Rattle.rvwmo_order.specs.declared.verdict.Verdict.{Verdict}
 use Rattle.rvwmo_order.specs.declared.verdict.Verdict.TheVariants.{Legal, Fault}
 
+-- w stands behind a source, and between them no store of another hart to x
+abbrev pub is_atomic_behind : List Operation → Option Operation → Operation → ℕ → Bool
+is_atomic_behind order source w x =
+    list_any (same w) (behind source order)
+    && list_all (λ t. t.hart == w.hart || not (stores_to x t)) (up_to w (behind source order))
+
+-- byte x of a and b comes from these two, which differ, with no store to it between a and b in program order
+abbrev pub differs : ℕ → List Item → Option Operation → Option Operation → Operation → Operation → Bool
+differs x items one other a b = touches x b && not (list_any (λ (m : Item). has_store_to x m.operation) (between items a b)) && not (same_source one other)
+
 -- a and b return byte x from different writes, with no store to it between them in program order
 abbrev pub returns_differently : ℕ → List Item → List Operation → Operation → Operation → Bool
-returns_differently x items order a b = touches x b && not (list_any (λ (m : Item). has_store_to x m.operation) (between items a b)) && not (same_source (source order a x) (source order b x))
+returns_differently x items order a b = differs x items (source order a x) (source order b x) a b
 
 -- what was found with b, else what is found elsewhere
 abbrev pub found_or : Option Operation → Operation → Option (Operation × Operation) → Option (Operation × Operation)

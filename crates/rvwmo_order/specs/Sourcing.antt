@@ -1,4 +1,4 @@
--- The stores that the bytes of loads come from, as two walks find them: each by its rank in the order.
+-- The last stores to bytes, as walks along an order and along a hart's list find them: each by its rank in the order.
 use Rattle.std.specs.Prelude.{◌≡◌, ◌<◌, ◌-◌, ◌+◌, ◌/◌, ◌%◌, ◌==◌, ◌&&◌, ◌||◌, if◌then◌else◌, max, ℕ, Bool, true, false, List, [], Some, length, nat_eq, nat_lt, slice_get, slice_index_or, unwrap_or}
 use Rattle.std.specs.HashMap as hash
 use Rattle.std.specs.HashMap.{HashMap}
@@ -21,17 +21,17 @@ pub record IsLast (order : List Operation) (x : ℕ) (test : ℕ → Operation �
   pub there : 0 < rank → Stands order x test (rank - 1)
   pub last : (j : ℕ) → Stands order x test j → j < rank
 
--- the stores before a place of the order, and of the operation there, if it has come, those that precede it in program order
-abbrev pub is_known : (Operation → Bool) → ℕ → Operation → ℕ → Operation → Bool
-is_known come p a j s = nat_lt j p || (come a && precedes s a)
+-- those that precede an operation in program order, if it has come
+abbrev pub is_known : (Operation → Bool) → Operation → ℕ → Operation → Bool
+is_known come a j s = come a && precedes s a
 
 -- of each operation and each of its first bytes the rank is that of the last such store
-pub record GivesUpTo (order : List Operation) (sources : List (List ℕ)) (come : Operation → Bool) : Type 0 where
-  pub many : length sources ≡ length order
-  pub each : (p i : ℕ) (a : Operation) (ranks : List ℕ) → slice_get order p ≡ Some a → slice_get sources p ≡ Some ranks → i < 4 → i < a.size → IsLast order (a.address + i) (is_known come p a) (slice_index_or ranks i 0)
+pub record GivesOwn (order : List Operation) (own : List (List ℕ)) (come : Operation → Bool) : Type 0 where
+  pub many : length own ≡ length order
+  pub each : (p i : ℕ) (a : Operation) (ranks : List ℕ) → slice_get order p ≡ Some a → slice_get own p ≡ Some ranks → i < 4 → i < a.size → IsLast order (a.address + i) (is_known come a) (slice_index_or ranks i 0)
 
-abbrev pub nothing_come : Operation → Bool
-nothing_come a = false
+abbrev pub all_come : Operation → Bool
+all_come a = true
 
 -- it is of a hart before this, or of this one and stands before a place of its list
 abbrev pub is_come : ℕ → ℕ → Operation → Bool
@@ -57,9 +57,9 @@ pub record AreNumbers (order : List Operation) (hart : ℕ) (list : List ℕ) : 
 abbrev pub raised : ℕ → ℕ → Operation → ℕ → ℕ
 raised rank x a before = if stores_to x a then max before rank else before
 
--- of the operation of a rank the sources are raised to what was kept of its bytes, and then its bytes to the rank
-pub record IsRaised {S T : Type 0} (order : List Operation) (before : HashMap ℕ (List ℕ) S) (behind : HashMap ℕ (List ℕ) T) (old new : List (List ℕ)) (rank : ℕ) : Type 0 where
+-- of the operation of a rank what was kept of its bytes is noted, and its bytes are then raised to the rank
+pub record IsNoted {S T : Type 0} (order : List Operation) (before : HashMap ℕ (List ℕ) S) (behind : HashMap ℕ (List ℕ) T) (old new : List (List ℕ)) (rank : ℕ) : Type 0 where
   pub many : length new ≡ length old
   pub kept : (a : Operation) → slice_get order (rank - 1) ≡ Some a → (x : ℕ) → latest_at behind x ≡ raised rank x a (latest_at before x)
-  pub own : (a : Operation) (was now : List ℕ) (i : ℕ) → slice_get order (rank - 1) ≡ Some a → slice_get old (rank - 1) ≡ Some was → slice_get new (rank - 1) ≡ Some now → i < 4 → i < a.size → slice_index_or now i 0 ≡ max (slice_index_or was i 0) (latest_at before (a.address + i))
+  pub own : (a : Operation) (now : List ℕ) (i : ℕ) → slice_get order (rank - 1) ≡ Some a → slice_get new (rank - 1) ≡ Some now → i < 4 → i < a.size → slice_index_or now i 0 ≡ latest_at before (a.address + i)
   pub others : (p : ℕ) → (p ≡ rank - 1 → ⊥) → slice_get new p ≡ slice_get old p

@@ -43,6 +43,10 @@ with_all own t = record { all = max t.all own; loads = t.loads; source = t.sourc
 abbrev pub touched : List Operation → ℕ → ℕ → Operation → Touch → Touch
 touched order x own a t = with_all own (read order x own a (stored a.kind t))
 
+-- the same of one that returns it, as a load, from the store of this rank
+abbrev pub touched_from : ℕ → ℕ → Operation → Touch → Touch
+touched_from from own a t = with_all own (if reads a.kind then loaded from own (stored a.kind t) else stored a.kind t)
+
 -- behind an instruction whose operation, where it has one, has this weight
 abbrev pub touch_after : List Operation → ℕ → ℕ → Item → Touch → Touch
 touch_after order x own m t = option_map_or (λ (a : Operation). if touches x a then touched order x own a t else t) m.operation t

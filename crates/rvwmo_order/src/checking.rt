@@ -1,9 +1,10 @@
 //! The checker: a trace and an order in, a verdict out.
-ghost use Rattle.std.specs.Prelude.{◌≡◌, ◌↔◌, ◌<◌, true, false, length, nat_lt, Err, IfOk, IsErrOf, if◌then◌else◌};
+ghost use Rattle.std.specs.Prelude.{◌≡◌, ◌↔◌, ◌≤◌, ◌<◌, ◌+◌, true, false, length, nat_lt, Err, IfOk, IsErrOf, if◌then◌else◌};
 ghost use Rattle.memory_model.specs.Traces as traces;
 ghost use Rattle.memory_model.specs.Traces.{IsLegalOrder};
 ghost use Rattle.memory_model.specs.Verdict.{fault_in};
 ghost use Rattle.rvwmo_order.specs.Answers.{IsSoundVerdict, fault_told, refusal, refusal_of};
+ghost use Rattle.rvwmo_order.specs.Looks.{most_looks};
 ghost use Rattle.rvwmo_order.specs.Scans.{judged};
 
 use crate::error::CheckError;
@@ -13,6 +14,9 @@ use crate::verdict::Verdict;
 use machine_types::MemoryModel;
 use memory_model::trace_recorder::{OpId, Trace};
 use std::alloc::{AllocError, Global};
+use std::marker::Brand;
+use std::sync::ledger::{Blank, Ledger};
+use tl_types::Ticks;
 use trace_operations::{Harts, are_runs, few_names, has_too_many, is_order, operations_at};
 
 /// Whether an order of the operations of a trace is legal under RVWMO.
@@ -41,6 +45,48 @@ pub fn check_model(
     ensures sound { IfOk result (λ v. IsSoundVerdict model trace.now.history order.now v) }
     ensures first { IfOk result (λ v. fault_told v ≡ fault_in model trace.now.history order.now) }
 {
+    check_on::<Brand>(alloc, trace, order, model, Blank::new(1))
+}
+
+// The same with a ledger for the looks, which nobody asks for.
+fn check_on<L: Ledger>(
+    alloc: Global,
+    trace: &Trace,
+    order: &[OpId],
+    model: MemoryModel,
+    blank: Blank,
+) -> Result<Verdict, CheckError>
+    requires name { blank.name ≡ L.name }
+    requires parts { blank.parts ≡ L.parts }
+    requires some { 0 < L.parts }
+    ensures no_run { traces.are_runs trace.now.history ≡ false → result ≡ Err CheckError.NotARun }
+    ensures too_long { traces.are_runs trace.now.history ≡ true → 4096 < length (traces.names_in trace.now.history) → result ≡ Err CheckError.TooLong }
+    ensures refused { ¬ IsErrOf result CheckError.NoMemory → refusal_of result ≡ refusal trace.now.history order.now }
+    ensures legal { IfOk result (λ v. (v ≡ Verdict.Legal) ↔ IsLegalOrder model trace.now.history order.now) }
+    ensures sound { IfOk result (λ v. IsSoundVerdict model trace.now.history order.now v) }
+    ensures first { IfOk result (λ v. fault_told v ≡ fault_in model trace.now.history order.now) }
+{
+    let mut ticks: Ticks<L> = Ticks::new(blank);
+    check_counted(alloc, trace, order, model, &mut ticks)
+}
+
+/// The same, with the stores counted that were looked at to find those that the bytes of loads come from: for
+/// each byte of each load no more than the order has stores to that byte.
+pub fn check_counted<L: Ledger>(
+    alloc: Global,
+    trace: &Trace,
+    order: &[OpId],
+    model: MemoryModel,
+    ticks: &mut Ticks<L>,
+) -> Result<Verdict, CheckError>
+    ensures no_run { traces.are_runs trace.now.history ≡ false → result ≡ Err CheckError.NotARun }
+    ensures too_long { traces.are_runs trace.now.history ≡ true → 4096 < length (traces.names_in trace.now.history) → result ≡ Err CheckError.TooLong }
+    ensures refused { ¬ IsErrOf result CheckError.NoMemory → refusal_of result ≡ refusal trace.now.history order.now }
+    ensures legal { IfOk result (λ v. (v ≡ Verdict.Legal) ↔ IsLegalOrder model trace.now.history order.now) }
+    ensures sound { IfOk result (λ v. IsSoundVerdict model trace.now.history order.now v) }
+    ensures first { IfOk result (λ v. fault_told v ≡ fault_in model trace.now.history order.now) }
+    ensures looks { ticks.new ≤ ticks.old + most_looks (traces.operations_at (traces.instructions trace.now.history) order.now) }
+{
     let Ok(found) = few_names(alloc, trace) else {
         return Err(unless_no_run(trace, unless_too_long(trace)));
     };
@@ -56,7 +102,7 @@ pub fn check_model(
     if !is_order(alloc, trace, &harts, &names, order)? {
         return Err(CheckError::NotAnOrder);
     }
-    Ok(verdict_on(alloc, trace, &harts, order, model)?)
+    Ok(verdict_on(alloc, trace, &harts, order, model, ticks)?)
 }
 
 // Why an order isn't judged, where it is for this cause unless a list is no run, which takes no memory to find.
@@ -82,17 +128,19 @@ fn unless_too_long(trace: &Trace) -> CheckError
 }
 
 // The verdict on an order of the operations.
-fn verdict_on(
+fn verdict_on<L: Ledger>(
     alloc: Global,
     trace: &Trace,
     harts: &Harts,
     order: &[OpId],
     model: MemoryModel,
+    ticks: &mut Ticks<L>,
 ) -> Result<Verdict, AllocError>
     requires all { harts.now ≡ traces.instructions trace.now.history }
-    requires distinct { traces.is_distinct order.now ≡ true }
-    ensures { IfOk result (λ v. v ≡ judged model (traces.image_of trace.now.history) (traces.instructions trace.now.history) (traces.operations_at (traces.instructions trace.now.history) order.now)) }
+    requires whole { traces.has_each_operation_once trace.now.history order.now ≡ true }
+    ensures verdict { IfOk result (λ v. v ≡ judged model (traces.image_of trace.now.history) (traces.instructions trace.now.history) (traces.operations_at (traces.instructions trace.now.history) order.now)) }
+    ensures looks { ticks.new ≤ ticks.old + most_looks (traces.operations_at (traces.instructions trace.now.history) order.now) }
 {
-    let ranking = Ranking::of(alloc, trace, operations_at(alloc, harts, order)?)?;
+    let ranking = Ranking::of(alloc, trace, operations_at(alloc, harts, order)?, ticks)?;
     judge(alloc, model, trace.image(), harts, &ranking)
 }

@@ -1,13 +1,13 @@
 //! Judging an order of operations by its ranking: the load value axiom and the atomicity axiom as they are
 //! defined, but the rules by bounds and dependencies by the marks of sweeps.
-ghost use Rattle.std.specs.Prelude.{◌≡◌, ◌==◌, IfOk, None, Some, find, if◌then◌else◌};
+ghost use Rattle.std.specs.Prelude.{◌≡◌, ◌-◌, ◌==◌, IfOk, None, Some, find, if◌then◌else◌, slice_index_or, true};
 ghost use Rattle.std.specs.List.{list_all};
 ghost use Rattle.memory_model.specs.Operations as operations;
 ghost use Rattle.memory_model.specs.Order as orders;
 ghost use Rattle.elf_loader.specs.Image.{byte_at};
 ghost use Rattle.memory_model.specs.Legal as legal;
-ghost use Rattle.rvwmo_order.specs.Bounds.{GivesEach, RanksEach};
-ghost use Rattle.rvwmo_order.specs.Ranks.{AreDistinctOperations};
+ghost use Rattle.rvwmo_order.specs.Bounds.{GivesEach, HasEach, RanksEach};
+ghost use Rattle.rvwmo_order.specs.Ranks.{AreDistinctOperations, IsIn, ranked};
 ghost use Rattle.rvwmo_order.specs.Scans as scans;
 ghost use Rattle.rvwmo_order.specs.Scans.{all_rules, first_broken_pair, first_broken_rule, judged};
 
@@ -37,6 +37,7 @@ pub(crate) fn judge(
     ranking: &Ranking,
 ) -> Result<Verdict, AllocError>
     requires gives { GivesEach harts.now ranking.now }
+    requires whole { HasEach harts.now ranking.now }
     requires distinct { AreDistinctOperations ranking.now }
     ensures { IfOk result (λ verdict. verdict ≡ judged model (byte_at image.now) harts.now ranking.now) }
 {
@@ -60,6 +61,7 @@ fn broken_rule(
     ranking: &Ranking,
 ) -> Result<Option<(Rule, Operation, Operation)>, AllocError>
     requires gives { GivesEach harts.now ranking.now }
+    requires whole { HasEach harts.now ranking.now }
     requires distinct { AreDistinctOperations ranking.now }
     ensures { IfOk result (λ broken. broken ≡ first_broken_rule model harts.now ranking.now all_rules) }
 {
@@ -80,6 +82,7 @@ fn broken_by_rows(
     rows: &[Row],
 ) -> Result<Option<(Rule, Operation, Operation)>, AllocError>
     requires gives { GivesEach harts.now ranking.now }
+    requires whole { HasEach harts.now ranking.now }
     requires distinct { AreDistinctOperations ranking.now }
     requires ranked { RanksEach model harts.now ranking.now rows.now }
     ensures { IfOk result (λ broken. broken ≡ first_broken_rule model harts.now ranking.now all_rules) }
@@ -101,30 +104,37 @@ fn broken_by_rows(
 fn wrong_load(image: &Image, ranking: &Ranking) -> Option<Operation>
     ensures { result ≡ scans.wrong_load (byte_at image.now) ranking.now }
 {
-    let mut rest = ranking.order();
-    while let [a, tail @ ..] = rest {
+    for a in ranking.order() {
         if !returns_sources(image, ranking, a) {
             return Some(*a);
         }
-        rest = tail;
     }
     None
 }
 
 fn returns_sources(image: &Image, ranking: &Ranking, a: &Operation) -> bool
+    requires { IsIn ranking.now a.now }
     ensures { result ≡ legal.returns_sources (byte_at image.now) ranking.now a.now }
 {
     !reads(a.kind) || has_source_bytes(image, ranking, a)
 }
 
 fn has_source_bytes(image: &Image, ranking: &Ranking, a: &Operation) -> bool
+    requires there { IsIn ranking.now a.now }
+    requires reads { operations.reads a.now.kind ≡ true }
     ensures { result
         ≡ list_all (λ x. operations.read_at a.now x == orders.byte_from (byte_at image.now) x (orders.source ranking.now a.now x)) (operations.addresses_of a.now) }
 {
-    let position = ranking.position_of(a);
-    let ranks = ranking.ranks_of(position, a);
+    has_bytes(image, ranking, &ranking.ranks_of(a), a)
+}
+
+// Whether each byte is that of the store of its rank.
+fn has_bytes(image: &Image, ranking: &Ranking, ranks: &[usize; 4], a: &Operation) -> bool
+    ensures { result
+        ≡ list_all (λ x. operations.read_at a.now x == orders.byte_from (byte_at image.now) x (ranked ranking.now (slice_index_or ranks.now (x - a.now.address) 0))) (operations.addresses_of a.now) }
+{
     (u64::from(a.address)..end_of(a)).all(|x| read_at(a, x)
-        == byte_from(image, x, ranking.source_at(&ranks, position, a, x)))
+        == byte_from(image, x, ranking.source_at(ranks, a, x)))
 }
 
 // The first LR and SC that are paired and not atomic.
@@ -167,6 +177,7 @@ fn first_broken_with(harts: &Harts, ranking: &Ranking, w: &Operation) -> Option<
 
 // The LR, where it is paired with the SC and not atomic with it.
 fn broken_with(harts: &Harts, ranking: &Ranking, r: &Operation, w: &Operation) -> Option<Operation>
+    requires { IsIn ranking.now r.now }
     ensures { result
         ≡ (if scans.is_broken_pair harts.now ranking.now r.now w.now then Some r.now else None) }
 {
@@ -179,23 +190,38 @@ fn broken_with(harts: &Harts, ranking: &Ranking, r: &Operation, w: &Operation) -
 
 // Whether the LR and the SC are paired and not atomic.
 fn is_broken_pair(harts: &Harts, ranking: &Ranking, r: &Operation, w: &Operation) -> bool
+    requires { IsIn ranking.now r.now }
     ensures { result ≡ scans.is_broken_pair harts.now ranking.now r.now w.now }
 {
-    are_paired(harts.items_of(r.hart), r, w) && !is_atomic(ranking, r, w)
+    reads(r.kind) && are_paired(harts.items_of(r.hart), r, w) && !is_atomic(ranking, r, w)
 }
 
 fn is_atomic(ranking: &Ranking, r: &Operation, w: &Operation) -> bool
+    requires there { IsIn ranking.now r.now }
+    requires reads { operations.reads r.now.kind ≡ true }
     ensures { result ≡ legal.is_atomic ranking.now r.now w.now }
 {
-    (u64::from(r.address)..end_of(r)).all(|x| is_atomic_at(ranking, r, w, x))
+    is_atomic_by(ranking, &ranking.ranks_of(r), r, w)
 }
 
-// Whether the SC `w` stands behind the source of byte `x` of the LR `r`, with no other hart's store to it
-// between.
-fn is_atomic_at(ranking: &Ranking, r: &Operation, w: &Operation, x: u64) -> bool
-    ensures { result ≡ legal.is_atomic_at ranking.now r.now w.now x }
+// The same by the ranks of the stores that the bytes of the LR come from.
+fn is_atomic_by(ranking: &Ranking, ranks: &[usize; 4], r: &Operation, w: &Operation) -> bool
+    ensures { result
+        ≡ list_all (λ x. scans.is_atomic_behind ranking.now (ranked ranking.now (slice_index_or ranks.now (x - r.now.address) 0)) w.now x) (operations.addresses_of r.now) }
 {
-    let mut rest = behind(ranking.source_of(r, x), ranking);
+    (u64::from(r.address)..end_of(r)).all(|x| is_atomic_behind(
+        ranking,
+        ranking.source_at(ranks, r, x),
+        w,
+        x,
+    ))
+}
+
+// Whether the SC `w` stands behind the source of byte `x`, with no other hart's store to it between.
+fn is_atomic_behind(ranking: &Ranking, source: Option<Operation>, w: &Operation, x: u64) -> bool
+    ensures { result ≡ scans.is_atomic_behind ranking.now source w.now x }
+{
+    let mut rest = behind(source, ranking);
     while let [t, tail @ ..] = rest {
         if is_same(t, w) {
             return true;

@@ -4,6 +4,7 @@
 
 mod bounds;
 mod by_word;
+mod candidate;
 mod checking;
 mod error;
 mod fencing;
@@ -21,7 +22,7 @@ mod sweeping;
 mod uses;
 mod verdict;
 
-pub use checking::{check, check_model};
+pub use checking::{check, check_counted, check_model};
 pub use error::CheckError;
 pub use memory_model;
 pub use rule::Rule;

@@ -4,6 +4,7 @@ ghost use Rattle.std.specs.Prelude.{◌≡◌, IfOk, None, find, true};
 ghost use Rattle.memory_model.specs.Rules as rules;
 ghost use Rattle.rvwmo_order.specs.Rules.{rule_of};
 ghost use Rattle.rvwmo_order.specs.Lows.{AreLows};
+ghost use Rattle.rvwmo_order.specs.Ranks.{AreIn, IsIn};
 ghost use Rattle.rvwmo_order.specs.Scans.{all_rules, first_broken_rule};
 ghost use Rattle.rvwmo_order.specs.declared.rule.Rule.{Rule as RuleValue};
 
@@ -51,6 +52,8 @@ fn asks_none(
     among: &[Operation],
     b: &Operation,
 ) -> Result<bool, AllocError>
+    requires each { AreIn ranking.now among.now }
+    requires there { IsIn ranking.now b.now }
     ensures { IfOk result (λ none. none ≡ true → (rule : RuleValue) → find (λ a. rules.asked_by model harts.now ranking.now (rule_of rule) a b.now) among.now ≡ None) }
 {
     let items = harts.items_of(b.hart);

@@ -1,20 +1,23 @@
-//! An order of a trace's operations, with the place of each and the stores that its bytes come from found
+//! An order of a trace's operations, with the place of each and the stores that its loads' bytes come from found
 //! without a walk over the order.
-ghost use Rattle.std.specs.Prelude.{◌≡◌, ◌&&◌, ◌||◌, ℕ, List, IfOk, Some, nat_lt, slice_get};
+ghost use Rattle.std.specs.Prelude.{◌≡◌, ◌≤◌, ◌-◌, ◌+◌, ◌<◌, IfOk, Some, length, slice_get, slice_index_or, true};
 ghost use Rattle.std.specs.Option.{option_copied};
 ghost use Rattle.memory_model.specs.declared.operation.Operation.{Operation as OperationValue};
 ghost use Rattle.memory_model.specs.Legal as legal;
 ghost use Rattle.memory_model.specs.Operations as operations;
 ghost use Rattle.memory_model.specs.Order as spec;
 ghost use Rattle.memory_model.specs.Verdict as verdict;
-ghost use Rattle.rvwmo_order.specs.Ranks.{AreDistinctOperations, GivesRanks, HasRank, rank_of, ranked};
+ghost use Rattle.rvwmo_order.specs.Looks.{most_looks};
+ghost use Rattle.rvwmo_order.specs.Ranks.{AreDistinctOperations, AreIn, AreSmall, GivesRanks, IsIn, ranked};
 
 use crate::sourcing::sources_in;
 use memory_model::Operation;
 use memory_model::trace_recorder::{OpId, Trace};
 use std::alloc::{AllocError, Global};
 use std::marker::Model;
-use trace_operations::accesses::{is_same, name_of, precedes, reads, stores_to};
+use std::sync::ledger::Ledger;
+use tl_types::Ticks;
+use trace_operations::accesses::name_of;
 use trace_operations::{Places, places_in};
 
 /// An order of a trace's operations, made for judging it.
@@ -23,8 +26,8 @@ pub(crate) struct Ranking {
     order: Vec<Operation>,
     /// One more than the place of each operation.
     places: Places,
-    /// The ranks of the stores that the first bytes of each load come from, at the load's place; 0 stands for
-    /// no store. They are found once, since a judge asks for them many times.
+    /// The ranks of the stores that the bytes of each load come from, at the load's place; 0 stands for no
+    /// store. They are found once, since a judge asks for them many times.
     sources: Vec<[usize; 4]>,
 }
 
@@ -32,28 +35,32 @@ impl Model for Ranking {
     ghost use Rattle.std.specs.Prelude.{◌≡◌, List};
     ghost use Rattle.memory_model.specs.declared.operation.Operation.{Operation as OperationValue};
     ghost use Rattle.trace_operations.specs.Indexed.{known, number_in, place_from};
-    ghost use Rattle.rvwmo_order.specs.Ranks.{GivesSources};
+    ghost use Rattle.rvwmo_order.specs.Ranks.{AreDistinctOperations, GivesSources};
 
     ghost Value = { List OperationValue };
 
     ghost view = { λ i. i.order.items };
 
     ghost invariant = { λ i. ((a : OperationValue) → known (number_in a.hart a.place i.places) ≡ place_from 0 a i.order.items)
-        × GivesSources i.order.items i.sources.items };
+        × AreDistinctOperations i.order.items × GivesSources i.order.items i.sources.items };
 }
 
 impl Ranking {
-    /// The ranking of an order.
-    pub(crate) fn of(
+    /// The ranking of an order. For each byte of each load no more stores are looked at than the order has
+    /// stores to that byte.
+    pub(crate) fn of<L: Ledger>(
         alloc: Global,
         trace: &Trace,
         order: Vec<Operation>,
+        ticks: &mut Ticks<L>,
     ) -> Result<Ranking, AllocError>
-        requires { AreDistinctOperations order.items }
-        ensures { IfOk result (λ ranking. ranking ≡ order.items) }
+        requires distinct { AreDistinctOperations order.items }
+        requires small { AreSmall order.items }
+        ensures order { IfOk result (λ ranking. ranking ≡ order.items) }
+        ensures looks { ticks.new ≤ ticks.old + most_looks order.items }
     {
         let places = places_in(alloc, trace, &order)?;
-        let sources = sources_in(alloc, &order, &places)?;
+        let sources = sources_in(alloc, &order, &places, ticks)?;
         Ok(Ranking {
             order,
             places,
@@ -63,7 +70,8 @@ impl Ranking {
 
     /// The operations, in their order.
     pub(crate) fn order(&self) -> &[Operation]
-        ensures { result.now ≡ self.now }
+        ensures order { result.now ≡ self.now }
+        ensures each { AreIn self.now self.now }
     {
         self.order.as_slice()
     }
@@ -87,73 +95,33 @@ impl Ranking {
         }
     }
 
-    /// The store that byte `x` of a load comes from.
-    pub(crate) fn source_of(&self, load: &Operation, x: u64) -> Option<Operation>
-        ensures { result ≡ spec.source self.now load.now x }
+    /// The ranks of the stores that the bytes of a load come from.
+    pub(crate) fn ranks_of(&self, load: &Operation) -> [usize; 4]
+        requires there { IsIn self.now load.now }
+        requires reads { operations.reads load.now.kind ≡ true }
+        ensures { GivesRanks self.now load.now result }
     {
-        let position = self.position_of(load);
-        let ranks = self.ranks_of(position, load);
-        self.source_at(&ranks, position, load, x)
+        self.ranks_at(self.position_of(load))
     }
 
-    /// The same of a load that stands at this place of the order, of whose first bytes these are the ranks.
+    /// Those of the load that stands at this place.
+    pub(crate) fn ranks_at(&self, position: usize) -> [usize; 4]
+        requires { position < length self.now }
+        ensures { (load : OperationValue) → slice_get self.now position ≡ Some load → operations.reads load.kind ≡ true → GivesRanks self.now load result }
+    {
+        self.sources[position]
+    }
+
+    /// The store that byte `x` of a load comes from, by the ranks of its bytes' stores.
     pub(crate) fn source_at(
         &self,
         ranks: &[usize; 4],
-        position: usize,
         load: &Operation,
         x: u64,
     ) -> Option<Operation>
-        requires position { position ≡ spec.position_in self.now load.now }
-        requires ranks { GivesRanks self.now load.now ranks.now }
-        ensures { result ≡ spec.source self.now load.now x }
+        ensures { result ≡ ranked self.now (slice_index_or ranks.now (x - load.now.address) 0) }
     {
-        self.ranked(self.rank_at(ranks, position, load, x)).copied()
-    }
-
-    /// The rank of the store that byte `x` of a load comes from.
-    pub(crate) fn source_rank(
-        &self,
-        ranks: &[usize; 4],
-        position: usize,
-        load: &Operation,
-        x: u64,
-    ) -> usize
-        requires position { position ≡ spec.position_in self.now load.now }
-        requires ranks { GivesRanks self.now load.now ranks.now }
-        requires distinct { AreDistinctOperations self.now }
-        ensures source { HasRank self.now (spec.source self.now load.now x) result }
-        ensures rank { result ≡ rank_of self.now (spec.source self.now load.now x) }
-    {
-        self.rank_at(ranks, position, load, x)
-    }
-
-    fn rank_at(&self, ranks: &[usize; 4], position: usize, load: &Operation, x: u64) -> usize
-        requires position { position ≡ spec.position_in self.now load.now }
-        requires ranks { GivesRanks self.now load.now ranks.now }
-        ensures { HasRank self.now (spec.source self.now load.now x) result }
-    {
-        let first = u64::from(load.address);
-        if x < first {
-            return self.find_source(position, load, x);
-        }
-        let offset = x - first;
-        if offset < 4 && offset < u64::from(load.size) {
-            ranks[offset as usize]
-        } else {
-            self.find_source(position, load, x)
-        }
-    }
-
-    /// The ranks of the stores that the first bytes of a load come from, which stands at this place.
-    pub(crate) fn ranks_of(&self, position: usize, load: &Operation) -> [usize; 4]
-        requires { position ≡ spec.position_in self.now load.now }
-        ensures { GivesRanks self.now load.now result }
-    {
-        match self.kept_ranks(position, load) {
-            Some(ranks) => *ranks,
-            None => self.found_ranks(position, load),
-        }
+        self.ranked(rank_at(ranks, load, x)).copied()
     }
 
     /// The operation of a rank; none of 0.
@@ -165,50 +133,6 @@ impl Ranking {
         } else {
             self.order.get(rank - 1)
         }
-    }
-
-    // Those of a load, where they are kept at this place of the order.
-    fn kept_ranks(&self, position: usize, load: &Operation) -> Option<&[usize; 4]>
-        ensures { (ranks : List ℕ) → option_copied result ≡ Some ranks → GivesRanks self.now load.now ranks }
-    {
-        let a = self.order.get(position)?;
-        let kept = self.sources.get(position)?;
-        if !is_same(a, load) || !reads(a.kind) {
-            return None;
-        }
-        if a.address != load.address || a.size != load.size {
-            return None;
-        }
-        Some(kept)
-    }
-
-    // Those of a load that stands at this place of the order, each found.
-    fn found_ranks(&self, position: usize, load: &Operation) -> [usize; 4]
-        requires { position ≡ spec.position_in self.now load.now }
-        ensures { GivesRanks self.now load.now result }
-    {
-        let mut ranks = [0; 4];
-        for offset in 0..4 {
-            if (offset as u32) < load.size {
-                let x = u64::from(load.address) + offset as u64;
-                ranks[offset] = self.find_source(position, load, x);
-            }
-        }
-        ranks
-    }
-
-    // The rank of the store that byte `x` of a load comes from, found by a walk over the order.
-    fn find_source(&self, position: usize, load: &Operation, x: u64) -> usize
-        requires { position ≡ spec.position_in self.now load.now }
-        ensures { HasRank self.now (spec.source self.now load.now x) result }
-    {
-        let mut rank = 0;
-        for (place, store) in self.order.iter().enumerate() {
-            if may_see(position, load, x, place, store) {
-                rank = place + 1;
-            }
-        }
-        rank
     }
 
     /// How many operations stand before one.
@@ -226,10 +150,13 @@ impl Ranking {
     }
 }
 
-// Whether a store at this place of the order is one to `x` that stands before the load's place there, or
-// precedes it in program order.
-fn may_see(position: usize, load: &Operation, x: u64, place: usize, store: &Operation) -> bool
-    ensures { result ≡ (operations.stores_to x store.now && (nat_lt place position || operations.precedes store.now load.now)) }
+/// The rank of the store that byte `x` of a load comes from, of those of its bytes.
+pub(crate) fn rank_at(ranks: &[usize; 4], load: &Operation, x: u64) -> usize
+    ensures { result ≡ slice_index_or ranks.now (x - load.now.address) 0 }
 {
-    stores_to(x, store) && (place < position || precedes(store, load))
+    let offset = x.saturating_sub(u64::from(load.address));
+    match ranks.get(offset as usize) {
+        Some(rank) => *rank,
+        None => 0,
+    }
 }

@@ -1,12 +1,14 @@
 //! The thirteen rules of preserved program order (chapter 14.1, "Preserved Program Order"), each a test of
 //! two operations of one hart, `a` before `b` in program order. `items` is the list of their hart.
-ghost use Rattle.std.specs.Prelude.{◌≡◌, ◌&&◌, ◌||◌, true};
+ghost use Rattle.std.specs.Prelude.{◌≡◌, ◌-◌, ◌&&◌, ◌||◌, slice_index_or, true};
 ghost use Rattle.memory_model.specs.declared.operation.Operation.{Operation as OperationValue};
 ghost use Rattle.std.specs.List.{list_any};
 ghost use Rattle.memory_model.specs.Rules as spec;
 ghost use Rattle.memory_model.specs.Dependencies.{between};
+ghost use Rattle.memory_model.specs.Operations as operations;
 ghost use Rattle.memory_model.specs.Operations.{addresses_of};
 ghost use Rattle.rvwmo_order.specs.Bounds.{IsGiven};
+ghost use Rattle.rvwmo_order.specs.Ranks.{IsIn, ranked};
 ghost use Rattle.rvwmo_order.specs.Scans as scans;
 ghost use Rattle.rvwmo_order.specs.Rules.{rule_of};
 ghost use Rattle.rvwmo_order.specs.Marks.{Tells};
@@ -34,7 +36,9 @@ pub(crate) fn asks(
     a: &Operation,
     b: &Operation,
 ) -> bool
-    requires { Tells sweep.now.rule items.now ranking.now b.now sweep.now.low sweep.now.marks.items a.now }
+    requires tells { Tells sweep.now.rule items.now ranking.now b.now sweep.now.low sweep.now.marks.items a.now }
+    requires first { IsIn ranking.now a.now }
+    requires second { IsIn ranking.now b.now }
     ensures { result ≡ (rule_of sweep.now.rule).asks model items.now ranking.now a.now b.now }
 {
     match sweep.rule() {
@@ -58,29 +62,57 @@ pub(crate) fn asks(
 
 // Rule 2: both are loads and return a byte of both from different writes, with no store to it between.
 fn are_same_byte_loads(items: &Items, ranking: &Ranking, a: &Operation, b: &Operation) -> bool
+    requires first { IsIn ranking.now a.now }
+    requires second { IsIn ranking.now b.now }
     ensures { result ≡ spec.rule_2 items.now ranking.now a.now b.now }
 {
     reads(a.kind) && reads(b.kind) && return_differently(items, ranking, a, b)
 }
 
 fn return_differently(items: &Items, ranking: &Ranking, a: &Operation, b: &Operation) -> bool
+    requires first { IsIn ranking.now a.now }
+    requires first_reads { operations.reads a.now.kind ≡ true }
+    requires second { IsIn ranking.now b.now }
+    requires second_reads { operations.reads b.now.kind ≡ true }
     ensures { result ≡ list_any (λ x. scans.returns_differently x items.now ranking.now a.now b.now) (addresses_of a.now) }
 {
-    (u64::from(a.address)..end_of(a)).any(|x| returns_differently(x, items, ranking, a, b))
+    let first = ranking.ranks_of(a);
+    let second = ranking.ranks_of(b);
+    differ_by(items, ranking, &first, &second, a, b)
 }
 
-fn returns_differently(
-    x: u64,
+// The same by the ranks of the stores that the bytes of both come from.
+fn differ_by(
     items: &Items,
     ranking: &Ranking,
+    first: &[usize; 4],
+    second: &[usize; 4],
     a: &Operation,
     b: &Operation,
 ) -> bool
-    ensures { result ≡ scans.returns_differently x items.now ranking.now a.now b.now }
+    ensures { result ≡ list_any (λ x. scans.differs x items.now (ranked ranking.now (slice_index_or first.now (x - a.now.address) 0)) (ranked ranking.now (slice_index_or second.now (x - b.now.address) 0)) a.now b.now) (addresses_of a.now) }
 {
-    touches(x, b)
-        && !has_store_between(items, a, b, x)
-        && !is_same_source(ranking.source_of(a, x), ranking.source_of(b, x))
+    (u64::from(a.address)..end_of(a)).any(|x| {
+        let (one, other) = (
+            ranking.source_at(first, a, x),
+            ranking.source_at(second, b, x),
+        );
+        differs(x, items, one, other, a, b)
+    })
+}
+
+// Whether byte `x` of both comes from these stores, which differ, and none stands between.
+fn differs(
+    x: u64,
+    items: &Items,
+    one: Option<Operation>,
+    other: Option<Operation>,
+    a: &Operation,
+    b: &Operation,
+) -> bool
+    ensures { result ≡ scans.differs x items.now one other a.now b.now }
+{
+    touches(x, b) && !has_store_between(items, a, b, x) && !is_same_source(one, other)
 }
 
 /// Whether a store to `x` stands between them in program order.

@@ -1,8 +1,11 @@
 //! The stores that bytes of loads come from (chapter 14.1, load value axiom).
-ghost use Rattle.std.specs.Prelude.{◌≡◌, Some};
+ghost use Rattle.std.specs.Prelude.{◌≡◌, ◌-◌, Some, slice_index_or, true};
+ghost use Rattle.std.specs.List.{list_any};
+ghost use Rattle.memory_model.specs.Operations as operations;
 ghost use Rattle.memory_model.specs.Order as spec;
 ghost use Rattle.memory_model.specs.Rules as rules;
 ghost use Rattle.elf_loader.specs.Image.{byte_at};
+ghost use Rattle.rvwmo_order.specs.Ranks.{IsIn, ranked};
 
 use crate::ranking::Ranking;
 use elf_loader::Image;
@@ -30,9 +33,21 @@ pub(crate) fn byte_from(image: &Image, x: u64, source: Option<Operation>) -> u32
     }
 }
 
-/// Whether a byte of `b` comes from the store `a`.
+/// Whether a byte of the load `b` comes from the store `a`.
 pub(crate) fn returns_from(ranking: &Ranking, b: &Operation, a: &Operation) -> bool
+    requires there { IsIn ranking.now b.now }
+    requires reads { operations.reads b.now.kind ≡ true }
     ensures { result ≡ rules.returns_from ranking.now b.now a.now }
 {
-    (u64::from(b.address)..end_of(b)).any(|x| is_same_source(ranking.source_of(b, x), Some(*a)))
+    is_any_from(ranking, &ranking.ranks_of(b), b, a)
+}
+
+// Whether a byte of `b` has the store `a`, by the ranks of its bytes' stores.
+fn is_any_from(ranking: &Ranking, ranks: &[usize; 4], b: &Operation, a: &Operation) -> bool
+    ensures { result ≡ list_any (λ x. spec.same_source (ranked ranking.now (slice_index_or ranks.now (x - b.now.address) 0)) (Some a.now)) (operations.addresses_of b.now) }
+{
+    (u64::from(b.address)..end_of(b)).any(|x| is_same_source(
+        ranking.source_at(ranks, b, x),
+        Some(*a),
+    ))
 }

@@ -1,86 +1,106 @@
-//! Finding the stores that the bytes of each load of an order come from: by one walk along the order, and one
-//! along each hart's list.
-ghost use Rattle.std.specs.Prelude.{◌≡◌, ◌≤◌, ◌<◌, ◌+◌, ℕ, IfOk, OnOk, length, max, slice_index_or};
+//! Finding the stores that the bytes of each load of an order come from: by one walk along each hart's list, and one
+//! along the order.
+ghost use Rattle.std.specs.Prelude.{◌≡◌, ◌≤◌, ◌<◌, ◌+◌, ℕ, IfOk, OnOk, if◌then◌else◌, length, max, replicate, slice_index_or, sum_by, true};
 ghost use Rattle.memory_model.specs.declared.operation.Operation.{Operation as OperationValue};
-ghost use Rattle.rvwmo_order.specs.Ranks.{AreDistinctOperations, GivesSources};
+ghost use Rattle.memory_model.specs.Operations as operations;
+ghost use Rattle.rvwmo_order.specs.Looks.{looks_at, most_looks};
+ghost use Rattle.rvwmo_order.specs.Ranks.{AreDistinctOperations, AreSmall, GivesSources};
 ghost use Rattle.trace_operations.specs.Indexed.{known, number_in, place_from};
-ghost use Rattle.rvwmo_order.specs.Sourcing.{AreNumbers, GivesUpTo, IsRaised, is_come, latest_at, nothing_come, raised};
+ghost use Rattle.rvwmo_order.specs.Sourcing.{AreNumbers, GivesOwn, IsNoted, all_come, is_come, latest_at, raised};
 
+use crate::candidate::{Candidate, last_of};
 use crate::latest::Latest;
 use memory_model::Operation;
 use std::alloc::{AllocError, Global};
+use std::sync::ledger::Ledger;
+use tl_types::Ticks;
 use trace_operations::Places;
-use trace_operations::accesses::writes;
+use trace_operations::accesses::{reads, writes};
 
-/// The ranks of the stores that the first bytes of each load come from: the last of those before it in the
-/// order, or of those that precede it in program order, whichever stands further behind.
-pub(crate) fn sources_in(
+/// The ranks of the stores that the bytes of each load come from: the last of those before it in the order, or of
+/// those that precede it in program order, whichever stands further behind. Each of the two is looked at once.
+pub(crate) fn sources_in<L: Ledger>(
+    alloc: Global,
+    order: &[Operation],
+    places: &Places,
+    ticks: &mut Ticks<L>,
+) -> Result<Vec<[usize; 4]>, AllocError>
+    requires distinct { AreDistinctOperations order.now }
+    requires small { AreSmall order.now }
+    requires placed { (a : OperationValue) → known (number_in a.hart a.place places.now) ≡ place_from 0 a order.now }
+    ensures sources { IfOk result (λ sources. GivesSources order.now sources.items) }
+    ensures looks { ticks.new ≤ ticks.old + most_looks order.now }
+{
+    let own = own_stores(alloc, order, places)?;
+    last_stores(alloc, order, &own, ticks)
+}
+
+// For each operation the ranks of the last stores to its first bytes that precede it in program order.
+fn own_stores(
     alloc: Global,
     order: &[Operation],
     places: &Places,
 ) -> Result<Vec<[usize; 4]>, AllocError>
     requires distinct { AreDistinctOperations order.now }
     requires placed { (a : OperationValue) → known (number_in a.hart a.place places.now) ≡ place_from 0 a order.now }
-    ensures { IfOk result (λ sources. GivesSources order.now sources.items) }
+    ensures { IfOk result (λ own. GivesOwn order.now own.items all_come) }
 {
-    let mut sources = stores_before(alloc, order)?;
+    let mut own = none_noted(alloc, order.len())?;
     let lists = places.lists();
     for hart in 0..lists.len() {
-        raise_by_own(alloc, &mut sources, order, hart, lists[hart].as_slice())?;
+        note_hart(alloc, &mut own, order, hart, lists[hart].as_slice())?;
     }
-    Ok(sources)
+    Ok(own)
 }
 
-// For each operation the ranks of the last stores before it to its first bytes.
-fn stores_before(alloc: Global, order: &[Operation]) -> Result<Vec<[usize; 4]>, AllocError>
-    ensures { IfOk result (λ sources. GivesUpTo order.now sources.items nothing_come) }
+// So many of which none is noted yet.
+fn none_noted(alloc: Global, count: usize) -> Result<Vec<[usize; 4]>, AllocError>
+    ensures { IfOk result (λ own. own.items ≡ replicate count (replicate 4 0)) }
 {
-    let mut latest = Latest::none(alloc);
-    let mut sources = Vec::with_capacity(alloc, order.len())?;
-    for (position, a) in order.iter().enumerate() {
-        sources.push(latest.ranks(a))?;
-        pass(&mut latest, a, position + 1)?;
+    let mut own = Vec::with_capacity(alloc, count)?;
+    for place in 0..count {
+        own.push([0; 4])?;
     }
-    Ok(sources)
+    Ok(own)
 }
 
-// Raises those of a hart's operations to the ranks of the stores that precede them in program order.
-fn raise_by_own(
+// Notes those of a hart's operations.
+fn note_hart(
     alloc: Global,
-    sources: &mut [[usize; 4]],
+    own: &mut [[usize; 4]],
     order: &[Operation],
     hart: usize,
     list: &[u32],
 ) -> Result<(), AllocError>
     requires distinct { AreDistinctOperations order.now }
     requires numbers { AreNumbers order.now hart list.now }
-    requires before { GivesUpTo order.now sources.old (is_come hart 0) }
-    ensures { OnOk result (GivesUpTo order.now sources.new (is_come (hart + 1) 0)) }
+    requires before { GivesOwn order.now own.old (is_come hart 0) }
+    ensures { OnOk result (GivesOwn order.now own.new (is_come (hart + 1) 0)) }
 {
     let mut latest = Latest::none(alloc);
     for place in 0..list.len() {
         let rank = list[place] as usize;
         if rank > 0 {
-            raise_one(&mut latest, sources, order, rank)?;
+            note_one(&mut latest, own, order, rank)?;
         }
     }
     Ok(())
 }
 
-// Raises those of the operation of a rank, and goes past it.
-fn raise_one(
+// Notes those of the operation of a rank, and goes past it.
+fn note_one(
     latest: &mut Latest,
-    sources: &mut [[usize; 4]],
+    own: &mut [[usize; 4]],
     order: &[Operation],
     rank: usize,
 ) -> Result<(), AllocError>
     requires some { 0 < rank }
     requires within { rank ≤ length order.now }
-    requires each { length sources.old ≡ length order.now }
-    ensures { OnOk result (IsRaised order.now latest.old.words latest.new.words sources.old sources.new rank) }
+    requires each { length own.old ≡ length order.now }
+    ensures { OnOk result (IsNoted order.now latest.old.words latest.new.words own.old own.new rank) }
 {
     let a = &order[rank - 1];
-    sources[rank - 1] = greater(&sources[rank - 1], &latest.ranks(a));
+    own[rank - 1] = latest.ranks(a);
     pass(latest, a, rank)
 }
 
@@ -95,14 +115,48 @@ fn pass(latest: &mut Latest, a: &Operation, rank: usize) -> Result<(), AllocErro
     Ok(())
 }
 
-// Of two numbers at each place the greater.
-fn greater(a: &[usize; 4], b: &[usize; 4]) -> [usize; 4]
-    ensures { (i : ℕ) → slice_index_or result i 0 ≡ max (slice_index_or a.now i 0) (slice_index_or b.now i 0) }
+// For each load the ranks of the last stores to its bytes of those before it in the order and of its hart's own.
+fn last_stores<L: Ledger>(
+    alloc: Global,
+    order: &[Operation],
+    own: &[[usize; 4]],
+    ticks: &mut Ticks<L>,
+) -> Result<Vec<[usize; 4]>, AllocError>
+    requires distinct { AreDistinctOperations order.now }
+    requires small { AreSmall order.now }
+    requires own { GivesOwn order.now own.now all_come }
+    ensures sources { IfOk result (λ sources. GivesSources order.now sources.items) }
+    ensures looks { ticks.new ≤ ticks.old + most_looks order.now }
 {
-    [
-        a[0].max(b[0]),
-        a[1].max(b[1]),
-        a[2].max(b[2]),
-        a[3].max(b[3]),
-    ]
+    let mut latest = Latest::none(alloc);
+    let mut sources = Vec::with_capacity(alloc, order.len())?;
+    for (position, a) in order.iter().enumerate() {
+        sources.push(ranks_found(&latest, a, &own[position], ticks))?;
+        pass(&mut latest, a, position + 1)?;
+    }
+    Ok(sources)
+}
+
+// Those of an operation, where it is a load.
+fn ranks_found<L: Ledger>(
+    latest: &Latest,
+    a: &Operation,
+    own: &[usize; 4],
+    ticks: &mut Ticks<L>,
+) -> [usize; 4]
+    requires { a.now.size ≤ 4 }
+    ensures ranks { operations.reads a.now.kind ≡ true → (i : ℕ) → i < a.now.size → slice_index_or result i 0 ≡ max (latest_at latest.now.words (a.now.address + i)) (slice_index_or own.now i 0) }
+    ensures looks { (most : ℕ → ℕ) → ((i : ℕ) → i < a.now.size → looks_at (latest_at latest.now.words (a.now.address + i)) (slice_index_or own.now i 0) ≤ most (a.now.address + i))
+        → ticks.new ≤ ticks.old + (if operations.reads a.now.kind then sum_by most (operations.addresses_of a.now) else 0) }
+{
+    let mut ranks = [0; 4];
+    if !reads(a.kind) {
+        return ranks;
+    }
+    let before = latest.ranks(a);
+    for offset in 0..a.size as usize {
+        let last = Candidate::new(before[offset]);
+        ranks[offset] = last_of(last, Candidate::new(own[offset]), ticks);
+    }
+    ranks
 }

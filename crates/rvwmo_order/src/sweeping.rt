@@ -10,6 +10,7 @@ ghost use Rattle.memory_model.specs.Dependencies as dependencies;
 ghost use Rattle.memory_model.specs.Dependencies.{holds, uses_at, uses_in, with_flags};
 ghost use Rattle.rvwmo_order.specs.Marks as spec;
 ghost use Rattle.rvwmo_order.specs.Marks.{IsBelow, TellsEach};
+ghost use Rattle.rvwmo_order.specs.Ranks.{IsIn};
 ghost use Rattle.trace_operations.specs.Placed.{GivesOwn};
 
 use crate::ranking::Ranking;
@@ -63,7 +64,8 @@ impl Sweep {
         among: &[Operation],
         b: &Operation,
     ) -> Result<(), AllocError>
-        requires { GivesOwn b.now.hart items.now }
+        requires own { GivesOwn b.now.hart items.now }
+        requires there { IsIn ranking.now b.now }
         ensures rule { self.new.rule ≡ self.old.rule }
         ensures told { OnOk result (TellsEach self.old.rule items.now ranking.now b.now self.new.low self.new.marks.items among.now) }
     {
@@ -113,14 +115,17 @@ fn find_sources(
     ranking: &Ranking,
     b: &Operation,
 ) -> Result<(), AllocError>
+    requires swept { spec.is_swept rule b.now ≡ true }
+    requires there { IsIn ranking.now b.now }
     ensures { OnOk result (sources.new.items ≡ spec.sources_of rule ranking.now b.now) }
 {
     sources.clear();
     if !matches!(rule, Rule::DependentStore) {
         return Ok(());
     }
+    let ranks = ranking.ranks_of(b);
     for x in u64::from(b.address)..end_of(b) {
-        sources.push(ranking.source_of(b, x))?;
+        sources.push(ranking.source_at(&ranks, b, x))?;
     }
     Ok(())
 }

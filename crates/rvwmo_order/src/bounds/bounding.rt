@@ -1,10 +1,9 @@
 //! The rows of an order's operations, one at each place, filled in by a walk along each hart's list.
 ghost use Rattle.std.specs.Prelude.{◌≡◌, ◌+◌, ◌<◌, ℕ, IfOk, OnOk, Some, replicate, slice_get, slice_index_or, slice_set};
 ghost use Rattle.memory_model.specs.declared.operation.Operation.{Operation as OperationValue};
-ghost use Rattle.memory_model.specs.Order as orders;
 ghost use Rattle.memory_model.specs.Rules as rules;
 ghost use Rattle.rvwmo_order.specs.Bounds as spec;
-ghost use Rattle.rvwmo_order.specs.Bounds.{BoundsEach, GivesEach, HasCome, RanksEach};
+ghost use Rattle.rvwmo_order.specs.Bounds.{BoundsEach, GivesEach, HasCome, HasEach, RanksEach};
 ghost use Rattle.rvwmo_order.specs.Ranks.{AreDistinctOperations};
 ghost use Rattle.trace_operations.specs.Placed.{GivesOwn, IsPlaced};
 
@@ -23,6 +22,7 @@ pub(crate) fn ranked_rows(
     ranking: &Ranking,
 ) -> Result<Vec<Row>, AllocError>
     requires gives { GivesEach harts.now ranking.now }
+    requires whole { HasEach harts.now ranking.now }
     requires distinct { AreDistinctOperations ranking.now }
     ensures { IfOk result (λ rows. RanksEach model harts.now ranking.now rows.items) }
 {
@@ -50,6 +50,7 @@ pub(crate) fn rows_of(
     weights: &[usize],
 ) -> Result<Vec<Row>, AllocError>
     requires gives { GivesEach harts.now ranking.now }
+    requires whole { HasEach harts.now ranking.now }
     requires distinct { AreDistinctOperations ranking.now }
     ensures { IfOk result (λ rows. BoundsEach model harts.now ranking.now weights.now rows.items) }
 {
@@ -85,6 +86,7 @@ fn bound_hart(
     weights: &[usize],
 ) -> Result<(), AllocError>
     requires gives { GivesEach harts.now ranking.now }
+    requires whole { HasEach harts.now ranking.now }
     requires distinct { AreDistinctOperations ranking.now }
     requires bound { BoundsEach model harts.now ranking.now weights.now rows.old }
     ensures { OnOk result (BoundsEach model harts.now ranking.now weights.now rows.new) }
@@ -119,13 +121,14 @@ fn bound_item(
     item: &Item,
 ) -> Standing
     requires gives { GivesEach harts.now ranking.now }
+    requires whole { HasEach harts.now ranking.now }
     requires distinct { AreDistinctOperations ranking.now }
     requires bound { BoundsEach walk.now.model harts.now ranking.now weights.now rows.old }
     requires placed { IsPlaced 0 (rules.items_of harts.now hart) }
     requires own { GivesOwn hart (rules.items_of harts.now hart) }
     requires there { slice_get (rules.items_of harts.now hart) item.now.place ≡ Some item.now }
     requires come { HasCome walk.now.model (spec.own_weight weights.now ranking.now) ranking.now (rules.items_of harts.now hart) item.now.place walk.now }
-    ensures position { (a : OperationValue) → item.now.operation ≡ Some a → result.position ≡ orders.position_in ranking.now a }
+    ensures position { (a : OperationValue) → item.now.operation ≡ Some a → slice_get ranking.now result.position ≡ Some a }
     ensures weight { result.weight ≡ spec.own_weight weights.now ranking.now item.now }
     ensures bound { BoundsEach walk.now.model harts.now ranking.now weights.now rows.new }
 {

@@ -1,15 +1,14 @@
 //! The bytes that a walk along a hart's list has touched: for each the greatest weight of its accesses, and
 //! of its loads since the last store to it, by where they return it from.
-ghost use Rattle.std.specs.Prelude.{◌≡◌, ◌≤◌, ◌+◌, ◌*◌, ◌/◌, ◌%◌, ◌<◌, ◌&&◌, ℕ, [], OnOk, if◌then◌else◌, nat_eq, nat_le, nat_lt, slice_index_or, true, unwrap_or};
+ghost use Rattle.std.specs.Prelude.{◌≡◌, ◌≤◌, ◌-◌, ◌+◌, ◌*◌, ◌/◌, ◌%◌, ◌<◌, ◌&&◌, ℕ, [], OnOk, Some, if◌then◌else◌, nat_eq, nat_le, nat_lt, slice_get, slice_index_or, true, unwrap_or};
 ghost use Rattle.std.specs.HashMap as hash;
 ghost use Rattle.memory_model.specs.Operations as operations;
-ghost use Rattle.memory_model.specs.Order as orders;
 ghost use Rattle.rvwmo_order.specs.Ranks.{AreDistinctOperations, GivesRanks};
 ghost use Rattle.rvwmo_order.specs.Touched as spec;
 ghost use Rattle.rvwmo_order.specs.Touched.{touch_in};
 
 use crate::by_word::word_of;
-use crate::ranking::Ranking;
+use crate::ranking::{Ranking, rank_at};
 use memory_model::Operation;
 use std::alloc::AllocError;
 use std::collections::HashMap;
@@ -56,20 +55,9 @@ impl Touch {
         }
     }
 
-    // Goes past an operation that touches the byte `x`, and stands at this place of the order.
-    fn pass(
-        &mut self,
-        ranking: &Ranking,
-        ranks: &[usize; 4],
-        position: usize,
-        x: u64,
-        a: &Operation,
-        own: usize,
-    )
-        requires position { position ≡ orders.position_in ranking.now a.now }
-        requires ranks { operations.reads a.now.kind ≡ true → GivesRanks ranking.now a.now ranks.now }
-        requires distinct { AreDistinctOperations ranking.now }
-        ensures { self.new ≡ spec.touched ranking.now x own a.now self.old }
+    // Goes past an operation that touches the byte, and as a load returns it from the store of this rank.
+    fn pass(&mut self, a: &Operation, source: usize, own: usize)
+        ensures { self.new ≡ spec.touched_from source own a.now self.old }
     {
         if writes(a.kind) {
             self.loads = 0;
@@ -77,7 +65,7 @@ impl Touch {
             self.others = 0;
         }
         if reads(a.kind) {
-            self.load(ranking.source_rank(ranks, position, a, x), own);
+            self.load(source, own);
         }
         self.all = self.all.max(own);
     }
@@ -132,7 +120,7 @@ pub(crate) fn pass_bytes(
     a: &Operation,
     own: usize,
 ) -> Result<(), AllocError>
-    requires position { position ≡ orders.position_in ranking.now a.now }
+    requires there { slice_get ranking.now position ≡ Some a.now }
     requires distinct { AreDistinctOperations ranking.now }
     ensures { OnOk result ((x : ℕ) → touch_in touches.new x
         ≡ (if operations.touches x a.now then spec.touched ranking.now x own a.now (touch_in touches.old x) else touch_in touches.old x)) }
@@ -143,10 +131,10 @@ pub(crate) fn pass_bytes(
     while x < end {
         let behind = behind_in_word(x, end);
         match touches.get_mut(&(x / 4)) {
-            Some(word) => pass_word(word, ranking, &ranks, position, x, behind, a, own),
+            Some(word) => pass_word(word, &ranks, x, behind, a, own),
             None => {
                 let mut word = [Touch::none(); 4];
-                pass_word(&mut word, ranking, &ranks, position, x, behind, a, own);
+                pass_word(&mut word, &ranks, x, behind, a, own);
                 touches.insert(x / 4, word)?;
             }
         }
@@ -155,13 +143,13 @@ pub(crate) fn pass_bytes(
     Ok(())
 }
 
-// The ranks of the stores that the first bytes of an operation come from, where it is a load.
+// The ranks of the stores that the bytes of an operation come from, where it is a load.
 fn ranks_read(ranking: &Ranking, position: usize, a: &Operation) -> [usize; 4]
-    requires { position ≡ orders.position_in ranking.now a.now }
+    requires { slice_get ranking.now position ≡ Some a.now }
     ensures { operations.reads a.now.kind ≡ true → GivesRanks ranking.now a.now result }
 {
     if reads(a.kind) {
-        ranking.ranks_of(position, a)
+        ranking.ranks_at(position)
     } else {
         [0; 4]
     }
@@ -170,23 +158,18 @@ fn ranks_read(ranking: &Ranking, position: usize, a: &Operation) -> [usize; 4]
 // Goes past it at the bytes of a word from one on, up to another.
 fn pass_word(
     word: &mut [Touch; 4],
-    ranking: &Ranking,
     ranks: &[usize; 4],
-    position: usize,
     first: u64,
     end: u64,
     a: &Operation,
     own: usize,
 )
-    requires position { position ≡ orders.position_in ranking.now a.now }
-    requires ranks { operations.reads a.now.kind ≡ true → GivesRanks ranking.now a.now ranks.now }
-    requires distinct { AreDistinctOperations ranking.now }
     requires ordered { first ≤ end }
     requires within { end ≤ first / 4 * 4 + 4 }
     ensures { (x : ℕ) → x / 4 ≡ first / 4 → slice_index_or word.new (x % 4) spec.untouched
-        ≡ (if nat_le first x && nat_lt x end then spec.touched ranking.now x own a.now (slice_index_or word.old (x % 4) spec.untouched) else slice_index_or word.old (x % 4) spec.untouched) }
+        ≡ (if nat_le first x && nat_lt x end then spec.touched_from (slice_index_or ranks.now (x - a.now.address) 0) own a.now (slice_index_or word.old (x % 4) spec.untouched) else slice_index_or word.old (x % 4) spec.untouched) }
 {
     for x in first..end {
-        word[(x % 4) as usize].pass(ranking, ranks, position, x, a, own);
+        word[(x % 4) as usize].pass(a, rank_at(ranks, a, x), own);
     }
 }

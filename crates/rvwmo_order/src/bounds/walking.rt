@@ -1,6 +1,6 @@
 //! A walk along a hart's list: what it carries, what it has passed and the bytes that it has touched bound,
 //! for each rule, the weights of the operations that must come before the one at hand.
-ghost use Rattle.std.specs.Prelude.{◌≡◌, ◌≤◌, ◌-◌, ◌||◌, ℕ, max, true, List, OnOk, Some, slice_index_or};
+ghost use Rattle.std.specs.Prelude.{◌≡◌, ◌≤◌, ◌-◌, ◌||◌, ℕ, max, true, List, OnOk, Some, slice_get, slice_index_or};
 ghost use Rattle.memory_model.specs.declared.operation.Operation.{Operation as OperationValue};
 ghost use Rattle.memory_model.specs.Items.{Item as ItemValue};
 ghost use Rattle.memory_model.specs.Dependencies.{uses_in};
@@ -18,7 +18,7 @@ use crate::bounds::passed::Passed;
 use crate::bounds::rows::{Row, row_at};
 use crate::bounds::touched::{Touch, pass_bytes, touch_near};
 use crate::by_word::word_of;
-use crate::ranking::Ranking;
+use crate::ranking::{Ranking, rank_at};
 use machine_types::MemoryModel;
 use memory_model::Operation;
 use rv32_decode::Instr;
@@ -58,7 +58,7 @@ impl Walk {
         position: usize,
         own: usize,
     ) -> Result<(), AllocError>
-        requires placed { (a : OperationValue) → item.now.operation ≡ Some a → position ≡ orders.position_in ranking.now a }
+        requires placed { (a : OperationValue) → item.now.operation ≡ Some a → slice_get ranking.now position ≡ Some a }
         requires distinct { AreDistinctOperations ranking.now }
         ensures model { OnOk result (self.new.model ≡ self.old.model) }
         ensures carried { OnOk result (self.new.carried ≡ carried_after own item.now.instr self.old.carried) }
@@ -83,7 +83,7 @@ impl Walk {
         b: &Operation,
         instr: Option<Instr>,
     ) -> Row
-        requires position { position ≡ orders.position_in ranking.now b.now }
+        requires there { slice_get ranking.now position ≡ Some b.now }
         requires distinct { AreDistinctOperations ranking.now }
         ensures { IsBoundsRow ranking.now weights.now rows.now b.now (uses_in instr) self.now result }
     {
@@ -146,7 +146,7 @@ impl Walk {
         position: usize,
         b: &Operation,
     ) -> Sourced
-        requires position { position ≡ orders.position_in ranking.now b.now }
+        requires there { slice_get ranking.now position ≡ Some b.now }
         requires distinct { AreDistinctOperations ranking.now }
         ensures loads { operations.reads b.now.kind ≡ true → (x : ℕ) → operations.touches x b.now ≡ true → but (rank_of ranking.now (orders.source ranking.now b.now x)) (touch_in self.now.touches x) ≤ result.loads }
         ensures atomics { operations.reads b.now.kind ≡ true → (x : ℕ) (s : OperationValue) → IsSource ranking.now b.now x s → (operations.is_amo s.kind || operations.is_sc s.kind) ≡ true → spec.weight_of weights.now ranking.now s ≤ result.atomics }
@@ -160,11 +160,11 @@ impl Walk {
         if !reads(b.kind) {
             return most;
         }
-        let ranks = ranking.ranks_of(position, b);
+        let ranks = ranking.ranks_at(position);
         let number = u64::from(b.address) / 4;
         let word = word_of(&self.touches, number);
         for x in u64::from(b.address)..end_of(b) {
-            let source = ranking.source_rank(&ranks, position, b, x);
+            let source = rank_at(&ranks, b, x);
             let touch = touch_near(&self.touches, number, word, x);
             most = Sourced {
                 loads: most.loads.max(touch.but(source)),

@@ -5,7 +5,7 @@ use Rattle.rvwmo_order.proofs.judging.broken_by_rows.Goals as goal
 
 pub returns-then-are_clear : goal.returns-then-are_clear
 returns-then-are_clear c =
-    let same : c.order.result.now ≡ c.args.ranking.now = c.order.ensures in
+    let same : c.order.result.now ≡ c.args.ranking.now = c.order.ensures.order in
     let long = ap length same in
     sym (none_broken c.args.model c.args.harts.now c.args.ranking.now c.args.rows.now c.requires.distinct c.requires.ranked (λ p l. c.are_clear.ensures.0 c.if-are_clear.true p (omega (arith, l, long))) all_rules)
 

@@ -5,12 +5,16 @@ use Rattle.memory_model.specs.Items.{Item}
 use Rattle.memory_model.specs.Rules.{paired}
 use Rattle.rvwmo_order.specs.Bounds.{IsGiven}
 use Rattle.rvwmo_order.specs.Scans.{is_broken_pair}
+use Rattle.rvwmo_order.proofs.Bytes.{is_in}
 use Rattle.rvwmo_order.proofs.Behind.{no_pair_without_sc}
 use Rattle.rvwmo_order.proofs.Pairs.{found_there, named_at}
 use Rattle.rvwmo_order.proofs.judging.first_broken_with.Goals as goal
 
 pub returns-then-not-is_sc : goal.returns-then-not-is_sc
 returns-then-not-is_sc c = no_pair_without_sc c.args.harts.now c.args.ranking.now c.args.w.now (sym c.is_sc.ensures ∙ c.if-not-is_sc.true)
+
+pub broken_with-requires : goal.broken_with-requires
+broken_with-requires c = is_in c.args.ranking.now _ _ c.requires.distinct (sym (c.named.ensures (named_at c.args.w.now c.pair_place-place.result) refl) ∙ ap option_copied c.in-Some.is)
 
 pub returns-in-Some : goal.returns-in-Some
 returns-in-Some c =

@@ -1,10 +1,7 @@
-use Rattle.std.proofs.Common.{◌≡◌, length, not, find}
+use Rattle.std.proofs.Common.{◌≡◌, drop, not, find}
 use Rattle.elf_loader.specs.Image.{byte_at}
 use Rattle.memory_model.specs.Legal.{returns_sources}
 use Rattle.rvwmo_order.proofs.judging.wrong_load.Given as goal
 
-abbrev pub invariant-loop-rest : goal.invariant-loop-rest
-invariant-loop-rest l = find (λ a. not (returns_sources (byte_at l.image) l.ranking a)) l.ranking ≡ find (λ a. not (returns_sources (byte_at l.image) l.ranking a)) l.rest
-
-abbrev pub decreases-loop-rest : goal.decreases-loop-rest
-decreases-loop-rest l = length l.rest
+abbrev pub invariant-loop-a : goal.invariant-loop-a
+invariant-loop-a l = find (λ a. not (returns_sources (byte_at l.image) l.ranking a)) l.ranking ≡ find (λ a. not (returns_sources (byte_at l.image) l.ranking a)) (drop l.a-index l.ranking)

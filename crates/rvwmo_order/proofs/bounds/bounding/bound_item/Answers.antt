@@ -1,9 +1,18 @@
-use Rattle.std.proofs.Common.{◌∙◌, Option, subst, sym}
+use Rattle.std.proofs.Common.{◌∙◌, Option, ap, subst, sym}
+use Rattle.std.specs.Prelude.{slice_get}
 use Rattle.rv32_decode.specs.declared.instruction.Instr.{Instr}
 use Rattle.memory_model.specs.Dependencies.{uses_in}
 use Rattle.rvwmo_order.specs.Bounds.{IsBoundsRow}
 use Rattle.rvwmo_order.proofs.Filled.{filled_put}
 use Rattle.rvwmo_order.proofs.bounds.bounding.bound_item.Goals as goal
+
+pub row-row-requires-clause-there : goal.row-row-requires-clause-there
+row-row-requires-clause-there c = ap (slice_get c.args.ranking.now) c.position_of-position.ensures ∙ c.requires.whole c.args.hart c.args.item.now.place c.args.item.now c.in-Some.b c.requires.there (sym c.operation.ensures ∙ c.in-Some.is)
+
+pub returns-clause-position : goal.returns-clause-position
+returns-clause-position c = λ a e.
+    let at = ap (slice_get c.args.ranking.now) c.position_of-position.ensures ∙ c.requires.whole c.args.hart c.args.item.now.place c.args.item.now c.in-Some.b c.requires.there (sym c.operation.ensures ∙ c.in-Some.is) in
+    at ∙ (sym (sym c.operation.ensures ∙ c.in-Some.is) ∙ e)
 
 pub returns-clause-bound : goal.returns-clause-bound
 returns-clause-bound c =

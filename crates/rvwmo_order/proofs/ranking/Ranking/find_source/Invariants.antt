@@ -1,8 +1,0 @@
-use Rattle.std.proofs.Common.{◌&&◌, ◌||◌}
-use Rattle.std.specs.Prelude.{nat_lt}
-use Rattle.memory_model.specs.Operations.{precedes}
-use Rattle.rvwmo_order.specs.Sourcing.{IsLast}
-use Rattle.rvwmo_order.proofs.ranking.Ranking.find_source.Given as goal
-
-abbrev pub invariant-loop-place : goal.invariant-loop-place
-invariant-loop-place l = IsLast l.store-items l.x (λ j s. nat_lt j l.place && (nat_lt j l.position || precedes s l.load)) l.rank
