@@ -9,4 +9,5 @@ pub mod Reported
 pub mod Round
 pub mod Sets
 pub mod Telling
+pub mod Turning
 pub mod Wanting

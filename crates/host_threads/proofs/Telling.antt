@@ -1,5 +1,5 @@
 -- What counts in a worker's share behind each call of its port, and what the board is told then.
-use Rattle.std.proofs.Common.{◌≡◌, ◌≢◌, ◌∙◌, ⊎_elim, ap, arith, inl, inr, refl, subst, sym, ℕ, ◌+◌, Bool, true, false, Option, Ok, Err}
+use Rattle.std.proofs.Common.{◌≡◌, ◌∙◌, ⊎_elim, ap, arith, inl, inr, refl, subst, sym, ℕ, ◌+◌, Bool, true, false, Option, Ok, Err}
 use Rattle.std.proofs.lemmas.Bool.Decides.{nat_tests}
 use Rattle.std.specs.Prelude.{◌||◌, ◌==◌, not, OnErr, OnOk}
 use Rattle.std.specs.declared.result.Result.{Result}
@@ -20,7 +20,6 @@ use Rattle.machine_model.specs.Events.{Verdict, verdict}
 use Rattle.machine_model.specs.Events.Verdict.{IsBad, Keeps, IsLimited, Moves}
 use Rattle.machine_model.specs.Views.{State}
 use Rattle.locked_fabric.specs.ApplyError.{ApplyError}
-use Rattle.locked_fabric.specs.TheVariants as apply
 use Rattle.progress_board.specs.Seat.{view}
 use Rattle.progress_board.specs.declared.seat.Seat.{Seat}
 use Rattle.progress_board.specs.declared.view.View.{View}
@@ -78,12 +77,12 @@ refused_counts event (Err error) found left count counted answered counts =
 pub same_of : {W V : Type 0} {a b : W} → a ≡ b → (f : W → V) → f a ≡ f b
 same_of e f = ap f e
 
--- whatever the turn came to, it was picked
-pub is_picked : (P : Type 0) (taken : Taken) (found : State) → IsPick (λ _ _. P) taken found → P
-is_picked P Nothing found pick = pick
-is_picked P Over found pick = pick.1
-is_picked P (HeldBack number event) found pick = pick
-is_picked P (Tried number event came) found pick = pick
+-- whatever the turn came to, what holds of each pick holds of it
+pub is_picked : (P : Type 0) (Q : State → Option Event → Type 0) (taken : Taken) (found : State) → IsPick (λ machine event. P × Q machine event) taken found → P
+is_picked P Q Nothing found pick = pick.0
+is_picked P Q Over found pick = pick.1.0
+is_picked P Q (HeldBack number event) found pick = pick.0
+is_picked P Q (Tried number event came) found pick = pick.0
 
 -- an event that was applied once nothing had counted
 pub applied_seen : (event : Event) (result : Result Outcome ApplyError) (before count counted own hart : ℕ) (seen : Option (ℕ × Status)) (spent : Bool) → count ≡ before → own ≡ hart

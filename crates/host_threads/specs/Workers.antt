@@ -9,7 +9,6 @@ use Rattle.hart.specs.declared.status.Status.{Status}
 use Rattle.locked_fabric.specs.declared.turn.Turn as turn
 use Rattle.locked_fabric.specs.Port.{seat_of, share_of}
 use Rattle.progress_board.specs.Seat.{IsSeatOf, view}
-use Rattle.progress_board.specs.declared.seat.Seat.{Seat}
 use Rattle.progress_board.specs.declared.view.View.{View}
 
 -- what it shares with the run's other workers

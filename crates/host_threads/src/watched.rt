@@ -59,11 +59,14 @@ impl<'a, T: Turn + Drop> Watched<'a, T> {
 
 impl<'a, T: Turn + Drop> Turn for Watched<'a, T> {
     ghost use Rattle.std.specs.Prelude.{◌≡◌};
+    ghost use Rattle.host_threads.specs.Picking.{IsLeftOfPick};
 
-    ghost picks = { λ before _ _ _ after. after.hart ≡ before.hart };
+    ghost picks = { λ before machine last left after. (after.hart ≡ before.hart)
+        × IsLeftOfPick T.picks before.hart before.seen before.turn machine last left after.turn after.is_stepping after.stood };
 
     fn pick(&mut self, views: &Views<'_>, last: Option<Outcome>) -> Option<Event>
-        ensures hart { self.new.hart ≡ self.old.hart }
+        ensures picked { (self.new.hart ≡ self.old.hart)
+            × IsLeftOfPick T.picks self.old.hart self.old.seen self.old.turn views.now last result self.new.turn self.new.is_stepping self.new.stood }
         ensures image { self.new.image ≡ self.old.image }
         ensures steps { IsTrue self.new.is_stepping
             ↔ ((self.old.hart < length views.now.views.nodes) × (result ≡ Some (TheEvents.Step self.old.hart))

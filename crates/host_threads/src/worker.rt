@@ -1,10 +1,11 @@
 //! What one thread does.
 
-ghost use Rattle.std.specs.Prelude.{◌≡◌, ◌≢◌, ◌+◌, ◌==◌, false, true, Err, IfOk, IfSome, None, OnErr, OnOk, not};
+ghost use Rattle.std.specs.Prelude.{◌≡◌, ◌≢◌, ◌⊎◌, ◌+◌, ◌==◌, false, true, Err, IfOk, IfSome, None, OnErr, OnOk, not};
 ghost use Rattle.locked_fabric.specs.Adopting.{local_of};
 ghost use Rattle.hart.specs.Local.{private_row_from};
 ghost use Rattle.host_threads.specs.Endings.{IsReason, WasBad, ending_of, fault_of, is_spent, outcome_of};
 ghost use Rattle.host_threads.specs.Pace.{IsPaced};
+ghost use Rattle.host_threads.specs.Picking.{IsTurn, WasAnswered, WentAlone};
 ghost use Rattle.host_threads.specs.Telling.{CountsTo, Reports, Tells, is_done, longest_with};
 ghost use Rattle.locked_fabric.specs.Port.{IsLast, Left, seat_of, seen_in, share_of};
 ghost use Rattle.machine_types.specs.declared.limits.TheConstants.{MAX_ROW};
@@ -139,6 +140,7 @@ impl<'a, L: Ledger, T: Turn + Drop> Worker<'a, L, T> {
     fn take_turn<R: Wait, G: Gate>(&mut self, rt: &R, gate: &G) -> Option<Ending>
         ensures common { self.new.common ≡ self.old.common }
         ensures goes { (result ≡ None) → Left (Reports self.old.hart (counted_by self.old) (counted_by self.new) (told_by self.old) (told_by self.new)) }
+        ensures turn { (result ≡ None) → IsTurn T.picks (common_of self.old).image self.old.hart (seen_by self.old) (turn_of self.old) self.old.last (turn_of self.new) self.new.last }
         ensures ends { (result ≢ None) → (counted_by self.new ≡ counted_by self.old) × Tells false None (told_by self.old) (told_by self.new) }
         ensures reason { IfSome result (IsReason (common_of self.old) (told_by self.new)) }
     {
@@ -177,6 +179,8 @@ impl<'a, L: Ledger, T: Turn + Drop> Worker<'a, L, T> {
         ensures common { self.new.common ≡ self.old.common }
         ensures seat { seat_of self.new.port ≡ seat_of self.old.port }
         ensures came { fault_of result ≡ None → Left (λ left. CountsTo (counted_by self.old) (counted_by self.new) left × (seen_by self.new ≡ seen_in left.machine.trace self.old.hart) × (self.new.turn.is_spent ≡ is_spent left.machine)) }
+        ensures turn { turn_of self.new ≡ turn_of self.old }
+        ensures answered { fault_of result ≡ None → WasAnswered event result ⊎ WentAlone (common_of self.old).image self.old.turn.stood result }
         ensures bad { result ≡ Err ApplyError.BadEvent → WasBad }
         ensures err { OnErr result (counted_by self.new ≡ counted_by self.old) }
     {
@@ -194,6 +198,8 @@ impl<'a, L: Ledger, T: Turn + Drop> Worker<'a, L, T> {
         requires { IsPaced self.old.common.now.limit (view (seat_of self.old.port)) (share_of self.old.port + 1) }
         ensures common { self.new.common ≡ self.old.common }
         ensures hart { self.new.hart ≡ self.old.hart }
+        ensures turn { turn_of self.new ≡ turn_of self.old }
+        ensures retired { IfOk result (λ outcome. outcome ≡ Outcome.Retired) }
         ensures seat { seat_of self.new.port ≡ seat_of self.old.port }
         ensures came { OnOk result (Left (λ left. CountsTo (counted_by self.old) (counted_by self.new) left × (seen_by self.new ≡ seen_in left.machine.trace self.old.hart) × (self.new.turn.is_spent ≡ is_spent left.machine))) }
         ensures uncounted { OnErr result (counted_by self.new ≡ counted_by self.old) }
@@ -211,6 +217,7 @@ impl<'a, L: Ledger, T: Turn + Drop> Worker<'a, L, T> {
     // Tells the board what came of an event, before which so many counted. Why no turn follows, where none does.
     fn go_on(&mut self, came: Result<Outcome, ApplyError>, counted: u64) -> Option<Ending>
         ensures common { self.new.common ≡ self.old.common }
+        ensures turn { turn_of self.new ≡ turn_of self.old }
         ensures ends { result ≡ ending_of (fault_of came) (counted_by self.old == counted) self.old.turn.is_spent }
         ensures counts { counted_by self.new ≡ counted_by self.old }
         ensures last { (result ≡ None) → self.new.last ≡ outcome_of came }
@@ -235,6 +242,7 @@ impl<'a, L: Ledger, T: Turn + Drop> Worker<'a, L, T> {
     // Leaves out a turn of which nothing was picked, and so nothing comes.
     fn leave_out(&mut self) -> Option<Ending>
         ensures common { self.new.common ≡ self.old.common }
+        ensures turn { turn_of self.new ≡ turn_of self.old }
         ensures ends { result ≡ ending_of None true self.old.turn.is_spent }
         ensures counts { counted_by self.new ≡ counted_by self.old }
         ensures last { self.new.last ≡ None }
@@ -248,6 +256,7 @@ impl<'a, L: Ledger, T: Turn + Drop> Worker<'a, L, T> {
     // Rests behind a turn that changed nothing; ends where the machine changes no more.
     fn idle(&mut self) -> Option<Ending>
         ensures common { self.new.common ≡ self.old.common }
+        ensures turn { turn_of self.new ≡ turn_of self.old }
         ensures ends { result ≡ ending_of None true self.old.turn.is_spent }
         ensures counts { counted_by self.new ≡ counted_by self.old }
         ensures last { self.new.last ≡ self.old.last }
@@ -264,6 +273,7 @@ impl<'a, L: Ledger, T: Turn + Drop> Worker<'a, L, T> {
     // Publishes the length of the hart's list.
     fn publish(&mut self)
         ensures common { self.new.common ≡ self.old.common }
+        ensures turn { turn_of self.new ≡ turn_of self.old }
         ensures last { self.new.last ≡ self.old.last }
         ensures counts { counted_by self.new ≡ counted_by self.old }
         ensures seen { seen_by self.new ≡ seen_by self.old }
@@ -278,6 +288,7 @@ impl<'a, L: Ledger, T: Turn + Drop> Worker<'a, L, T> {
     // Waits a little: twice as long as before, until it is long enough to leave the processor to others.
     fn rest(&mut self)
         ensures common { self.new.common ≡ self.old.common }
+        ensures turn { turn_of self.new ≡ turn_of self.old }
         ensures last { self.new.last ≡ self.old.last }
         ensures counts { counted_by self.new ≡ counted_by self.old }
         ensures tells { Tells false (seen_by self.old) (told_by self.old) (told_by self.new) }
@@ -298,6 +309,7 @@ impl<'a, L: Ledger, T: Turn + Drop> Worker<'a, L, T> {
     // Sets the hart's halted bit where the hart retires no more: no other hart waits for its instructions.
     fn halt_when_done(&mut self)
         ensures common { self.new.common ≡ self.old.common }
+        ensures turn { turn_of self.new ≡ turn_of self.old }
         ensures last { self.new.last ≡ self.old.last }
         ensures counts { counted_by self.new ≡ counted_by self.old }
         ensures tells { Tells false (seen_by self.old) (told_by self.old) (told_by self.new) }
@@ -315,6 +327,7 @@ impl<'a, L: Ledger, T: Turn + Drop> Worker<'a, L, T> {
     // Sets the hart's halted bit, once.
     fn halt(&mut self)
         ensures common { self.new.common ≡ self.old.common }
+        ensures turn { turn_of self.new ≡ turn_of self.old }
         ensures last { self.new.last ≡ self.old.last }
         ensures counts { counted_by self.new ≡ counted_by self.old }
         ensures length { (told_by self.new).longest ≡ (told_by self.old).longest }

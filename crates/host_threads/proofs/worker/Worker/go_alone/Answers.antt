@@ -1,4 +1,4 @@
-use Rattle.std.proofs.Common.{◌≡◌, ◌∙◌, ℕ, subst}
+use Rattle.std.proofs.Common.{◌≡◌, ◌∙◌, ap, inl, inr, ℕ, Ok, subst}
 use Rattle.std.specs.Prelude.{OnErr}
 use Rattle.host_threads.proofs.Reasons.{was_bad}
 use Rattle.host_threads.proofs.Pace.{paced_applied}
@@ -29,3 +29,14 @@ returns-in-Err-Limit-clause-bad g c =
 
 pub returns-in-Err-Limit-clause-err : goal.returns-in-Err-Limit-clause-err
 returns-in-Err-Limit-clause-err g c = subst (λ (n : ℕ). OnErr c.apply.result (share_of c.apply.new.self ≡ n)) c.in-Err-Limit.ensures.uncounted c.apply.ensures.err
+
+pub returns-in-Ok-clause-answered : goal.returns-in-Ok-clause-answered
+returns-in-Ok-clause-answered g c = λ _. inr (ap Ok c.in-Ok.ensures.retired, c.in-Ok.ensures.row)
+
+pub returns-in-Err-NoMemory-clause-answered : goal.returns-in-Err-NoMemory-clause-answered
+returns-in-Err-NoMemory-clause-answered g c = λ fine. absurd (cc fine)
+
+pub returns-in-Err-Limit-clause-answered : goal.returns-in-Err-Limit-clause-answered
+returns-in-Err-Limit-clause-answered g c =
+    let answers = c.apply.ensures.answers in
+    λ _. inl (answers.2.0.old, answers.2.0.kept, answers.0, answers.2.0.answered)

@@ -1,11 +1,14 @@
-use Rattle.std.proofs.Common.{◌≡◌, ◌∙◌, ap, false, not, refl, subst, sym, true, ℕ, None}
-use Rattle.std.specs.Prelude.{◌==◌, OnErr}
+use Rattle.std.proofs.Common.{◌≡◌, ◌∙◌, ap, false, inl, not, refl, subst, sym, ℕ, None, Some}
+use Rattle.std.specs.Prelude.{◌⊎◌, ◌==◌, OnErr}
+use Rattle.hart.specs.declared.state.Hart.{Hart}
+use Rattle.host_threads.specs.Picking.{IsLeftOfPick, WasAnswered, WentAlone}
 use Rattle.host_threads.proofs.Reasons.{fine, idle_reason, reason_of, run_out, uncounted, was_bad, was_spent}
 use Rattle.host_threads.proofs.Pace.{paced_back, paced_lent, paced_took}
+use Rattle.host_threads.proofs.Turning.{told_alone, turned}
 use Rattle.host_threads.proofs.Telling.{drawn_untold, held_counts, is_picked, lent_untold, refused_counts, reports, same_of, seat_untold, taken_counts, tells_then, unchanged, untold_then}
 use Rattle.host_threads.specs.Endings.{fault_of}
-use Rattle.host_threads.specs.Telling.{CountsTo, Tells}
-use Rattle.locked_fabric.specs.Port.{Left, seat_of, seen_in, share_of}
+use Rattle.host_threads.specs.Telling.{CountsTo}
+use Rattle.locked_fabric.specs.Port.{seat_of, share_of}
 use Rattle.locked_fabric.specs.declared.taken.Taken.TheVariants.{Nothing, HeldBack, Tried}
 use Rattle.progress_board.specs.Seat.{view}
 use Rattle.progress_board.specs.declared.view.View.{View}
@@ -24,7 +27,9 @@ invariant_of-self-2 g c =
     let untold = untold_then (view (seat_of c.args.self.now.port)) (view c.halted.new.seat) (view (seat_of c.take.new.self))
     (lent_untold c.seat.result.now (seat_of c.args.self.now.port) c.halted.new.seat c.halted.result c.seat.ensures.now c.halted.ensures.seen)
     (drawn_untold limit c.take.result (view c.halted.new.seat) (view (seat_of c.take.new.self)) takes.draws) in
-    let picked = is_picked (took.2.2.hart ≡ c.args.self.now.turn.hart) c.take.result took.2.0.machine takes.pick in
+    let self = c.args.self.now in
+    let turn = took.2.2 in
+    let picked = is_picked (turn.hart ≡ self.turn.hart) (λ machine left. IsLeftOfPick g.T.Turn.picks self.turn.hart self.turn.seen self.turn.turn machine self.last left turn.turn turn.is_stepping turn.stood) c.take.result took.2.0.machine takes.pick in
     record {
       own = (untold.hart ∙ c.args.self.now.own.0, same_of took.2.3 (λ turn. turn.hart) ∙ picked ∙ c.args.self.now.own.1);
       seated = c.take.ensures.seat;
@@ -49,7 +54,7 @@ returns-in-Nothing-clause-goes g c = λ on.
     let untold = untold_then (view (seat_of c.args.self.now.port)) (view c.halted.new.seat) (view (seat_of c.take.new.self))
     (lent_untold c.seat.result.now (seat_of c.args.self.now.port) c.halted.new.seat c.halted.result c.seat.ensures.now c.halted.ensures.seen)
     (drawn_untold c.args.self.now.common.now.limit Nothing (view c.halted.new.seat) (view (seat_of c.take.new.self)) takes.draws) in
-    let mine = takes.pick ∙ c.args.self.now.own.1 in
+    let mine = takes.pick.0 ∙ c.args.self.now.own.1 in
     let saw = same_of took.2.3 (λ turn. turn.seen) in
     let same = held_counts took.2.0 took.0 count (share_of c.take.new.self) takes.leaves takes.counts in (
       took.0,
@@ -76,6 +81,15 @@ returns-in-Nothing-clause-reason g c =
     let took = c.in-Nothing.ensures.takes in
     idle_reason c.args.self.now.common.now (view (seat_of c.leave_out.new.self.port)) c.take.new.turn.is_spent c.leave_out.result c.leave_out.ensures.ends
     (was_spent took.0 c.take.new.turn.is_spent took.1 (same_of took.2.3 (λ turn. turn.is_spent)))
+
+pub returns-in-Nothing-clause-turn : goal.returns-in-Nothing-clause-turn
+returns-in-Nothing-clause-turn g c = λ on.
+    let took = c.in-Nothing.ensures.takes in
+    let self = c.args.self.now in
+    let picked = took.2.2 in
+    let pick = took.2.4.pick in
+    turned _ self.common.now.image self.hart self.turn.hart self.turn.seen self.turn.turn took.2.0.machine self.last None picked.turn c.leave_out.new.self.turn.turn picked.is_stepping picked.stood c.leave_out.new.self.last self.own.1
+    (c.leave_out.ensures.turn ∙ same_of took.2.3 (λ turn. turn.turn)) pick.1 c.leave_out.ensures.last
 
 -- ---- no number was left
 
@@ -133,6 +147,21 @@ returns-in-HeldBack-clause-reason g c =
     reason_of c.args.self.now.common.now (view (seat_of c.go_on.new.self.port)) came.result _ spent c.go_on.result c.go_on.ensures.ends
     (λ on. let left = came.ensures.came on in was_spent left.0 spent left.1 left.2.2) came.ensures.bad
 
+pub returns-in-HeldBack-clause-turn : goal.returns-in-HeldBack-clause-turn
+returns-in-HeldBack-clause-turn g c = λ on.
+    let took = c.in-HeldBack.ensures.takes in
+    let self = c.args.self.now in
+    let picked = took.2.2 in
+    let pick = took.2.4.pick in
+    let event = c.in-HeldBack.event in
+    let machine = took.2.0.machine in
+    let came = c.go_alone-came in
+    let stood = same_of took.2.3 (λ turn. turn.stood) in
+    turned _ self.common.now.image self.hart self.turn.hart self.turn.seen self.turn.turn machine self.last (Some event) picked.turn c.go_on.new.self.turn.turn picked.is_stepping picked.stood c.go_on.new.self.last self.own.1
+    (c.go_on.ensures.turn ∙ (came.ensures.turn ∙ same_of took.2.3 (λ turn. turn.turn))) pick.1
+    (told_alone self.common.now.image self.hart self.turn.hart machine event picked.stood came.result c.go_on.new.self.last self.own.1 (pick.1.step (sym took.2.4.held))
+    (subst (λ (at : Hart). WasAnswered event came.result ⊎ WentAlone self.common.now.image at came.result) stood (came.ensures.answered (fine (fault_of came.result) _ _ c.go_on.result c.go_on.ensures.ends on))) (c.go_on.ensures.last on))
+
 -- ---- it was tried
 
 pub returns-in-Tried-clause-goes : goal.returns-in-Tried-clause-goes
@@ -145,7 +174,7 @@ returns-in-Tried-clause-goes g c = λ on.
     let untold = untold_then first (view c.halted.new.seat) drawn
     (lent_untold c.seat.result.now (seat_of c.args.self.now.port) c.halted.new.seat c.halted.result c.seat.ensures.now c.halted.ensures.seen)
     (drawn_untold c.args.self.now.common.now.limit (Tried c.in-Tried.number c.in-Tried.event c.in-Tried.came) (view c.halted.new.seat) drawn takes.draws) in
-    let mine = takes.pick ∙ c.args.self.now.own.1 in
+    let mine = takes.pick.0 ∙ c.args.self.now.own.1 in
     let saw = same_of took.2.3 (λ turn. turn.seen) in
     let counted = share_of c.take.new.self in
     let changed = not (counted == c.counted-before.result) in
@@ -181,3 +210,13 @@ returns-in-Tried-clause-reason g c =
     reason_of c.args.self.now.common.now (view (seat_of c.go_on-in-Tried.new.self.port)) c.in-Tried.came _ spent c.go_on-in-Tried.result c.go_on-in-Tried.ensures.ends
     (λ fault. was_spent took.0 spent took.1 (same_of took.2.3 (λ turn. turn.is_spent)))
     (was_bad c.in-Tried.event c.in-Tried.came took.2.0 took.0 took.2.1 took.2.4.leaves)
+
+pub returns-in-Tried-clause-turn : goal.returns-in-Tried-clause-turn
+returns-in-Tried-clause-turn g c = λ on.
+    let took = c.in-Tried.ensures.takes in
+    let self = c.args.self.now in
+    let picked = took.2.2 in
+    let pick = took.2.4.pick in
+    let event = c.in-Tried.event in
+    turned _ self.common.now.image self.hart self.turn.hart self.turn.seen self.turn.turn took.2.0.machine self.last (Some event) picked.turn c.go_on-in-Tried.new.self.turn.turn picked.is_stepping picked.stood c.go_on-in-Tried.new.self.last self.own.1
+    (c.go_on-in-Tried.ensures.turn ∙ same_of took.2.3 (λ turn. turn.turn)) pick.1 (c.in-Tried.came, inl (took.2.0, took.2.1, took.0, took.2.4.leaves), c.go_on-in-Tried.ensures.last on)
