@@ -1,12 +1,14 @@
 //! `rvtl check --messages`: the log of a trace's messages is judged, and the verdict printed.
 
-ghost use Rattle.std.specs.Prelude.{◌≡◌, ◌==◌, IfErr, IfOk, not};
+ghost use Rattle.std.specs.Prelude.{◌≡◌, ◌≢◌, ◌==◌, IfErr, IfOk, not};
 ghost use Rattle.std.specs.Option.{option_copied};
 ghost use Rattle.std.specs.List.{list_any};
 ghost use Rattle.text_fields.specs.Writing.{Writes};
-ghost use Rattle.log_text.specs.Verdicts.{verdict_text};
-ghost use Rattle.check_command.specs.Checking.{IsTraceFault};
-ghost use Rattle.check_command.specs.Messages.{IsLogCutOff, IsLogFault, IsLogJudged, memory_told, text_meant};
+ghost use Rattle.log_text.specs.Verdicts.{told_text};
+ghost use Rattle.check_command.specs.Messages.{AreListed, IsLogCutOff, HoldsLog, IsLogFault, IsLogJudged, IsMeantFault, memory_told, sourced, text_meant};
+ghost use Rattle.log_text.specs.Ending as ending;
+ghost use Rattle.log_text.specs.Meant as meaning;
+ghost use Rattle.log_text.specs.Names.{without_names};
 ghost use Rattle.log_text.specs.Laws.{IsVerdict};
 ghost use Rattle.command_files.specs.Faults.{LeavesAtFault};
 ghost use Rattle.trace_text.specs.TraceLimits.{IsTrace};
@@ -16,84 +18,185 @@ use crate::reading::whole_trace;
 use command_files::{Escaped, Fault, Files, remark, text_in};
 use elf_loader::Image;
 use log_text::message_judge::{
-    MessageBreach, MessageVerdict, Profile, judge_ended, judge_messages,
+    Breaches, Broken, MessageBreach, MessageVerdict, Profile, judge_ended, judge_messages,
+    list_breaches,
 };
 use log_text::{
-    Contradiction, Objection, Place, Unanswered, end_text, misnamed_line, put_verdict,
-    without_names,
+    Contradiction, LogText, Objection, Place, Unanswered, end_text, foreign_messages, meant_text,
+    misnamed_line, put_told, source_line, without_names,
 };
 use open_questions::left_open;
 use std::alloc::{AllocError, Global};
 use std::io::{self, Write};
 use trace_recorder::{Logged, Trace};
+use trace_text::TextError;
 
-/// Reads a trace, or one that ends behind its messages, whose messages may have names, judges its log by the rules of
+/// What is asked of the messages of a log.
+#[derive(Clone, Copy, Debug, PartialEq, Eq)]
+pub struct MessageCheck {
+    /// By whose rules they are judged.
+    pub profile: Profile,
+    /// Whether the log has ended, so that each question has to have its answer.
+    pub ended: bool,
+    /// Whether each message that breaks a rule is told, and not the first alone.
+    pub all: bool,
+    /// Whether messages of TL-UL and TL-UH are skipped, and not refused.
+    pub skip: bool,
+}
+
+/// Reads a trace, or one that ends behind its messages, whose messages may have names, and which may say by S lines
+/// what harts hold at the start, judges its log by the rules of
 /// the lawful log, as the profile asks them, and of the coherent log, and prints the verdict on `out`. Memory begins as the trace's I lines say;
 /// where there is none with bytes that aren't known. Where the log has ended, each question has to have its answer too;
 /// where it may go on, a remark tells of those that have none. Where the log isn't lawful, the line and the name of the
-/// message that breaks a rule, and what stood against it, go to `err`.
+/// message that breaks a rule, and what stood against it, go to `err`. Where all are asked for, the first 100 messages
+/// that break a rule are told so, each judged behind all messages before it, and how many more there are.
 pub fn check_messages<'a, F: Files, O: Write, E: Write>(
     alloc: Global,
     files: &mut F,
     file: &'a str,
-    profile: Profile,
-    ended: bool,
+    check: MessageCheck,
     out: &mut O,
     err: &mut E,
 ) -> Result<MessageVerdict, Fault<'a>>
-    ensures judged { IfOk result (λ verdict. IsLogJudged (F.held files.old) file.entry.now profile ended verdict (O.contents out.old) (O.contents out.new)) }
+    ensures judged { IfOk result (λ verdict. IsLogJudged (F.held files.old) file.entry.now check verdict (O.contents out.old) (O.contents out.new)) }
     ensures unfinished { IfErr result (λ fault. LeavesAtFault fault (O.contents out.old) (O.contents out.new)
-        (IsLogCutOff (F.held files.old) file.entry.now profile ended (O.contents out.old) (O.contents out.new))) }
-    ensures told { IfErr result (IsLogFault (F.held files.old) file.entry) }
+        (IsLogCutOff (F.held files.old) file.entry.now check (O.contents out.old) (O.contents out.new))) }
+    ensures told { IfErr result (IsLogFault (F.held files.old) check.skip file.entry) }
     ensures spared { F.held files.new ≡ F.held files.old }
     ensures quiet { IfOk result (λ verdict. verdict ≡ MessageVerdict.Lawful → E.contents err.new ≡ E.contents err.old) }
 {
-    let bytes = text_in(alloc, files, file)?;
-    let Ok(text) = text_meant(alloc, bytes.as_slice()) else {
+    let read = read_log(alloc, files, file, check.skip)?;
+    let Ok(answer) = answered(alloc, &read.trace, check) else {
         return Err(Fault::OutOfMemory);
     };
-    let trace = whole_log(alloc, files, file, text.as_slice(), bytes.as_slice())?;
-    drop(text); // judging needs the room
-    let Ok(verdict) = judged(alloc, &trace, profile, ended) else {
-        return Err(Fault::OutOfMemory);
-    };
-    remark_judged(alloc, files, bytes.as_slice(), trace.log(), verdict);
-    if let Err(error) = print(verdict, out) {
+    let verdict = answer.verdict;
+    let text = read.text(check.skip);
+    remark_judged(alloc, files, text, read.trace.log(), verdict);
+    if let Err(error) = print(verdict, answer.breaches.as_ref(), out) {
         return Err(Fault::writing(error));
     }
+    let log = JudgedLog {
+        file,
+        trace: &read.trace,
+        profile: check.profile,
+    };
     // Standard error has no other place to tell that it takes no more.
-    let _ = object(file, bytes.as_slice(), &trace, profile, verdict, err);
+    let _ = object(log, text, verdict, answer.breaches.as_ref(), err);
     Ok(verdict)
 }
 
-/// The trace that this text is, for which the bytes of the file stand. Where it is none, what is wrong is remarked.
-fn whole_log<'a, F: Files>(
-    alloc: Global,
-    files: &mut F,
-    file: &'a str,
-    text: &[u8],
-    bytes: &[u8],
-) -> Result<Trace, Fault<'a>>
-    ensures read { IfOk result (λ trace. IsTrace trace.history × (text.now ≡ traces.text trace.history)) }
-    ensures told { IfErr result (IsTraceFault text.now file.entry) }
-    ensures spared { F.held files.new ≡ F.held files.old }
-{
-    match whole_trace(alloc, files, file, text) {
-        Ok(trace) => Ok(trace),
-        Err(fault) => {
-            remark_misnamed(alloc, files, bytes);
-            Err(fault)
+/// A file's log.
+#[derive(Drop)]
+struct ReadLog {
+    bytes: Vec<u8>,
+    /// What the bytes stand for, with names.
+    meant: Vec<u8>,
+    trace: Trace,
+}
+
+impl ReadLog {
+    fn text(&self, skip: bool) -> LogText<'_> {
+        LogText {
+            source: self.bytes.as_slice(),
+            skip,
+            meant: self.meant.as_slice(),
         }
     }
 }
 
-/// The trace's text that a file with such bytes stands for.
-fn text_meant(alloc: Global, bytes: &[u8]) -> Result<Vec<u8>, AllocError>
-    ensures { IfOk result (λ text. text.items ≡ text_meant bytes.now) }
+/// Reads the log that a file stands for.
+fn read_log<'a, F: Files>(
+    alloc: Global,
+    files: &mut F,
+    file: &'a str,
+    skip: bool,
+) -> Result<ReadLog, Fault<'a>>
+    ensures read { IfOk result (λ read. HoldsLog (F.held files.old) file.entry.now skip read.trace.history) }
+    ensures told { IfErr result (IsLogFault (F.held files.old) skip file.entry) }
+    ensures reading { IfErr result (λ fault. fault ≢ Fault.CannotWrite) }
+    ensures spared { F.held files.new ≡ F.held files.old }
 {
-    let mut text = without_names(alloc, bytes)?;
+    let bytes = text_in(alloc, files, file)?;
+    let source = bytes.as_slice();
+    let Ok(meant) = meant_text(alloc, source, skip) else {
+        return Err(Fault::OutOfMemory);
+    };
+    if skip {
+        remark_skipped(alloc, files, source);
+    }
+    let trace = whole_log(alloc, files, file, source, meant.as_slice(), skip)?;
+    Ok(ReadLog {
+        bytes,
+        meant,
+        trace,
+    })
+}
+
+/// The trace that is meant by the bytes of the file. Where it is none, what is wrong is remarked.
+fn whole_log<'a, F: Files>(
+    alloc: Global,
+    files: &mut F,
+    file: &'a str,
+    bytes: &[u8],
+    meant: &[u8],
+    skip: bool,
+) -> Result<Trace, Fault<'a>>
+    requires { meant.now ≡ meaning.meant skip bytes.now }
+    ensures read { IfOk result (λ trace. IsTrace trace.history × (text_meant skip bytes.now ≡ traces.text trace.history)) }
+    ensures told { IfErr result (IsMeantFault skip bytes.now file.entry) }
+    ensures spared { F.held files.new ≡ F.held files.old }
+{
+    let Ok(text) = text_meant(alloc, meant) else {
+        return Err(Fault::OutOfMemory);
+    };
+    match whole_trace(alloc, files, file, text.as_slice()) {
+        Ok(trace) => Ok(trace),
+        Err(fault) => {
+            remark_misnamed(alloc, files, bytes);
+            Err(sourced(fault, bytes, skip))
+        }
+    }
+}
+
+/// The fault at the line of the file that stands for the one that is refused.
+fn sourced<'a>(fault: Fault<'a>, bytes: &[u8], skip: bool) -> Fault<'a>
+    ensures { result ≡ sourced skip bytes.now fault.entry }
+{
+    match fault {
+        Fault::Text { file, error } => Fault::Text {
+            file,
+            error: TextError {
+                line: source_line(bytes, skip, error.line),
+                code: error.code,
+                cause: error.cause,
+            },
+        },
+        other => other,
+    }
+}
+
+/// The text of the trace that is meant, where messages may have names.
+fn text_meant(alloc: Global, meant: &[u8]) -> Result<Vec<u8>, AllocError>
+    ensures { IfOk result (λ text. text.items ≡ ending.ended (without_names meant.now)) }
+{
+    let mut text = without_names(alloc, meant)?;
     end_text(&mut text)?;
     Ok(text)
+}
+
+/// Remarks how many messages were skipped.
+fn remark_skipped<F: Files>(alloc: Global, files: &mut F, bytes: &[u8])
+    ensures { F.held files.new ≡ F.held files.old }
+{
+    let count = foreign_messages(bytes);
+    if count != 0 {
+        remark(
+            alloc,
+            files,
+            format_args!("{count} messages of TL-UL or TL-UH were skipped"),
+        );
+    }
 }
 
 /// Remarks where something stands behind a message that is no name.
@@ -109,6 +212,58 @@ fn remark_misnamed<F: Files>(alloc: Global, files: &mut F, bytes: &[u8])
             ),
         );
     }
+}
+
+/// What is said of a log.
+struct Answer {
+    verdict: MessageVerdict,
+    /// Where they are asked for.
+    breaches: Option<Breaches>,
+}
+
+impl Drop for Answer {
+    fn drop(self) {
+        let Answer {
+            verdict: _,
+            breaches,
+        } = self;
+        match breaches {
+            Some(
+                Breaches {
+                    listed: _,
+                    count: _,
+                },
+            ) => {}
+            None => {}
+        }
+    }
+}
+
+/// The verdict on a trace's log, and its breaches where they are asked for.
+fn answered(alloc: Global, trace: &Trace, check: MessageCheck) -> Result<Answer, AllocError>
+    ensures verdict { IfOk result (λ answer. IsVerdict check.ended check.profile (memory_told trace.now.history.image) trace.now.history.log answer.verdict) }
+    ensures breaches { IfOk result (λ answer. AreListed check.all check.profile (memory_told trace.now.history.image) trace.now.history.log answer.breaches) }
+{
+    let verdict = judged(alloc, trace, check.profile, check.ended)?;
+    let breaches = listed(alloc, trace, check.profile, check.all)?;
+    Ok(Answer { verdict, breaches })
+}
+
+/// The breaches of a trace's log by the profile's rules, where they are asked for.
+fn listed(
+    alloc: Global,
+    trace: &Trace,
+    profile: Profile,
+    all: bool,
+) -> Result<Option<Breaches>, AllocError>
+    ensures { IfOk result (AreListed all profile (memory_told trace.now.history.image) trace.now.history.log) }
+{
+    if !all {
+        return Ok(None);
+    }
+    let memory = memory_at_start(trace);
+    let breaches = list_breaches(alloc, profile, memory, trace.log())?;
+    Ok(Some(breaches))
 }
 
 /// The verdict on a trace's log by the profile's rules, which has ended or may go on.
@@ -132,7 +287,7 @@ fn judged(
 fn remark_judged<F: Files>(
     alloc: Global,
     files: &mut F,
-    bytes: &[u8],
+    text: LogText<'_>,
     log: &[Logged],
     verdict: MessageVerdict,
 )
@@ -146,13 +301,13 @@ fn remark_judged<F: Files>(
         );
     }
     if verdict == MessageVerdict::Lawful {
-        remark_open(alloc, files, bytes, log);
+        remark_open(alloc, files, text, log);
     }
 }
 
 /// Remarks the first question that no answer follows, and how many there are. Where memory is wanting, or there is
 /// none, nothing is told.
-fn remark_open<F: Files>(alloc: Global, files: &mut F, bytes: &[u8], log: &[Logged])
+fn remark_open<F: Files>(alloc: Global, files: &mut F, text: LogText<'_>, log: &[Logged])
     ensures { F.held files.new ≡ F.held files.old }
 {
     let Ok(Some(open)) = left_open(alloc, log) else {
@@ -161,7 +316,7 @@ fn remark_open<F: Files>(alloc: Global, files: &mut F, bytes: &[u8], log: &[Logg
     let Some(question) = Unanswered::of(log, open.first) else {
         return;
     };
-    let Some(place) = Place::of(bytes, open.first) else {
+    let Some(place) = Place::of(text, open.first) else {
         return;
     };
     if open.count == 1 {
@@ -203,61 +358,85 @@ fn is_told_of(byte: u8) -> bool
     byte != 0
 }
 
-fn print<O: Write>(verdict: MessageVerdict, out: &mut O) -> io::Result<()>
-    ensures { Writes (O.contents out.old) (O.contents out.new) (verdict_text verdict) result }
+fn print<O: Write>(
+    verdict: MessageVerdict,
+    breaches: Option<&Breaches>,
+    out: &mut O,
+) -> io::Result<()>
+    ensures { Writes (O.contents out.old) (O.contents out.new) (told_text verdict (option_copied breaches.entry)) result }
 {
-    put_verdict(verdict, out)?;
+    put_told(verdict, breaches, out)?;
     out.flush()
 }
 
-/// Which line of an unlawful log breaks a rule, and what stands against its message.
-fn object<E: Write>(
-    file: &str,
-    bytes: &[u8],
-    trace: &Trace,
+/// A trace's log as it stands in a file, and by whose rules it was judged.
+#[derive(Clone, Copy)]
+struct JudgedLog<'a> {
+    file: &'a str,
+    trace: &'a Trace,
     profile: Profile,
+}
+
+/// Which lines of an unlawful log break a rule, and what stands against their messages: those of the breaches that are
+/// listed, and else the verdict's.
+fn object<E: Write>(
+    log: JudgedLog<'_>,
+    text: LogText<'_>,
     verdict: MessageVerdict,
+    breaches: Option<&Breaches>,
     err: &mut E,
 ) -> io::Result<()>
     ensures { verdict ≡ MessageVerdict.Lawful → E.contents err.new ≡ E.contents err.old }
 {
     match verdict {
         MessageVerdict::Lawful => Ok(()),
-        MessageVerdict::Unlawful { breach, index } => {
-            put_breach(file, bytes, trace, profile, breach, index, err)
-        }
+        MessageVerdict::Unlawful { breach, index } => match breaches {
+            Some(breaches) if breaches.count != 0 => put_listed(log, text, &breaches.listed, err),
+            _ => put_breach(log, text, Broken { breach, index }, err),
+        },
     }
+}
+
+fn put_listed<E: Write>(
+    log: JudgedLog<'_>,
+    text: LogText<'_>,
+    listed: &[Broken],
+    err: &mut E,
+) -> io::Result<()> {
+    for broken in listed {
+        put_breach(log, text, *broken, err)?;
+    }
+    Ok(())
 }
 
 /// Which line breaks a rule, and what stands against its message.
 fn put_breach<E: Write>(
-    file: &str,
-    bytes: &[u8],
-    trace: &Trace,
-    profile: Profile,
-    breach: MessageBreach,
-    index: usize,
+    log: JudgedLog<'_>,
+    text: LogText<'_>,
+    broken: Broken,
     err: &mut E,
 ) -> io::Result<()> {
-    let name = Escaped(file);
-    let Some(place) = Place::of(bytes, index) else {
+    let name = Escaped(log.file);
+    let entries = log.trace.log();
+    let index = broken.index;
+    let Some(place) = Place::of(text, index) else {
         return Ok(());
     };
-    match breach {
+    match broken.breach {
         MessageBreach::Unlawful(rule) => {
-            let harts = trace.harts() as u8;
-            match Objection::to(trace.log(), profile, rule, index, harts) {
+            let harts = log.trace.harts() as u8;
+            match Objection::to(entries, log.profile, rule, index, harts) {
                 Some(objection) => writeln!(err, "rvtl: {name}: {place}: {objection}"),
                 None => Ok(()),
             }
         }
         MessageBreach::Incoherent(breach) => {
-            match Contradiction::of(bytes, trace.log(), breach, index) {
+            match Contradiction::of(text, entries, breach, index) {
                 Some(contradiction) => writeln!(err, "rvtl: {name}: {place}: {contradiction}"),
                 None => Ok(()),
             }
         }
-        MessageBreach::Unanswered => match Unanswered::of(trace.log(), index) {
+        MessageBreach::Unanswered => match Unanswered::of(entries, index) {
             Some(question) => writeln!(err, "rvtl: {name}: {place}: {question}"),
             None => Ok(()),
         },

@@ -13,8 +13,8 @@ use std::alloc::{AllocError, Global};
 use std::collections::HashMap;
 use trace_recorder::{Direction, Logged};
 
-/// What a log says so far.
-pub(crate) struct Followed {
+/// What a log says so far, coherent or not.
+pub struct Followed {
     /// By the line's address, what was said of it.
     lines: HashMap<u32, LineLog>,
 }
@@ -28,7 +28,7 @@ impl Drop for Followed {
 
 impl Followed {
     /// Of a log with no entry.
-    pub(crate) fn new(alloc: Global) -> Followed
+    pub fn new(alloc: Global) -> Followed
         ensures { Follows result [] }
     {
         Followed {
@@ -37,7 +37,7 @@ impl Followed {
     }
 
     /// The first rule that the next entry breaks, with its cause.
-    pub(crate) fn broken(&self, image: Option<&Image>, entry: &Logged) -> Option<Breach>
+    pub fn broken(&self, image: Option<&Image>, entry: &Logged) -> Option<Breach>
         ensures { (log : List LoggedValue) → Follows self.now log → FindsBreach (option_copied image.entry) log entry.now result }
     {
         match entry.direction {
@@ -46,13 +46,8 @@ impl Followed {
         }
     }
 
-    /// One more entry, the message of this number.
-    pub(crate) fn note(
-        &mut self,
-        alloc: Global,
-        entry: &Logged,
-        index: usize,
-    ) -> Result<(), AllocError>
+    /// One more entry, the message of this number, whether it breaks a rule or not. The only error is want of memory.
+    pub fn note(&mut self, alloc: Global, entry: &Logged, index: usize) -> Result<(), AllocError>
         ensures { OnOk result ((log : List LoggedValue) → Follows self.old log → index ≡ length log → Follows self.new (log ++ entry.now ∷ [])) }
     {
         note_line(alloc, &mut self.lines, entry, index)?;

@@ -14,5 +14,6 @@ mod verdict;
 
 pub use checking::check_coherence;
 pub use clients::{Held, Probed};
+pub use followed::Followed;
 pub use rule::CoherenceRule;
 pub use verdict::{Breach, CoherenceVerdict};

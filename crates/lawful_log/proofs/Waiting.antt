@@ -1,13 +1,14 @@
 -- What waits in a queue behind one more entry.
 use Rattle.std.proofs.Common.{ℕ, Bool, true, false, List, [], ◌∷◌, ◌++◌, ◌≡◌, Some, refl, ap, sym, ◌∙◌, subst, length, drop}
 use Rattle.std.specs.Prelude.{◌==◌, ◌&&◌, if◌then◌else◌, slice_get}
-use Rattle.std.proofs.lemmas.List.{append-nil}
+use Rattle.std.proofs.lemmas.List.{append-nil, append_assoc}
 use mathlib.Core.Logic.{◌⊎◌, inl, inr}
 use Rattle.machine_model.proofs.log.Lists.{comes_first, comes_out, goes_behind, goes_in, is_in, part, sent_on_sent, sent_on_taken, taken_on_sent, taken_on_taken}
 use Rattle.machine_model.specs.LawfulLog.{is_on, sent_on, taken_on}
 use Rattle.lawful_log.proofs.Entries.{is_own_or_other}
-use Rattle.lawful_log.specs.Followed.{moved, waiting_after}
-use Rattle.lawful_log.specs.Rules.{IsFront, KeepsGoing}
+use Rattle.lawful_log.specs.Facts.{front_for}
+use Rattle.lawful_log.specs.Followed.{moved, waiting_after, waiting_from, waiting_of, waits_first}
+use Rattle.lawful_log.specs.Rules.{IsFront, IsLawfulBy, KeepsGoing}
 use Rattle.lawful_log.specs.declared.profile.Profile.{Profile}
 use Rattle.lawful_log.specs.declared.rule.LogRule.TheVariants.{InOrder}
 use Rattle.tl_types.specs.Message.{channel_of}
@@ -72,6 +73,32 @@ follow profile Taken c k log h m q keeps all = follow_taken c k log h m q all ke
 pub queue_more : (profile : Profile) (c : Channel) (k : ℕ) (log : List Logged) (e : Logged) (q : List Msg) → KeepsGoing profile e.direction InOrder e.hart e.message log → taken_on c k log ++ q ≡ sent_on c k log
     → taken_on c k (log ++ e ∷ []) ++ waiting_after c k e q ≡ sent_on c k (log ++ e ∷ [])
 queue_more profile c k log e q keeps all = follow profile e.direction c k log e.hart e.message q keeps all
+
+-- what waits behind one more entry
+pub waiting_more : (c : Channel) (k : ℕ) (q : List Msg) (log : List Logged) (e : Logged) → waiting_from c k q (log ++ e ∷ []) ≡ waiting_after c k e (waiting_from c k q log)
+waiting_more c k q [] e = refl
+waiting_more c k q (x ∷ log) e = waiting_more c k (waiting_after c k x q) log e
+
+-- behind a lawful log what waits is what was sent and not taken
+module _ (profile : Profile) (c : Channel) (k : ℕ) where
+  abbrev AreAllThere : List Logged → Type 0
+  AreAllThere log = taken_on c k log ++ waiting_of c k log ≡ sent_on c k log
+
+  there_behind : (done rest : List Logged) → AreAllThere done → IsLawfulBy profile (done ++ rest) → AreAllThere (done ++ rest)
+  there_behind done [] so_far each = subst AreAllThere (sym (append-nil done)) so_far
+  there_behind done (e ∷ rest) so_far each =
+      let seam : (done ++ e ∷ []) ++ rest ≡ done ++ e ∷ rest = append_assoc done (e ∷ []) rest in
+      subst AreAllThere seam (there_behind (done ++ e ∷ []) rest next (subst (IsLawfulBy profile) (sym seam) each))
+    where
+      next : AreAllThere (done ++ e ∷ [])
+      next = ap (λ (q : List Msg). taken_on c k (done ++ e ∷ []) ++ q) (waiting_more c k [] done e) ∙ queue_more profile c k done e (waiting_of c k done) (each InOrder done rest e refl) so_far
+
+  pub all_there : (log : List Logged) → IsLawfulBy profile log → AreAllThere log
+  all_there log each = there_behind [] log refl each
+
+-- so what waits first is what the rules ask for
+pub first_lawful : (profile : Profile) (h : ℕ) (m : Msg) (log : List Logged) → IsLawfulBy profile log → waits_first h m log ≡ front_for h m log
+first_lawful profile h m log each = sym (front_waits (taken_on (channel_of m) h log) (waiting_of (channel_of m) h log) (sent_on (channel_of m) h log) (all_there profile (channel_of m) h log each))
 
 -- what holds on each channel
 pub each_channel : (P : Channel → Type 0) → P A → P B → P C → P D → P E → (c : Channel) → P c

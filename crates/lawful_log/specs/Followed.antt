@@ -1,11 +1,11 @@
 -- What the one pass keeps of a log.
-use Rattle.std.specs.Prelude.{ℕ, ◌≡◌, ◌+◌, ◌<◌, ◌^◌, Bool, false, ◌&&◌, ◌||◌, not, ◌==◌, if◌then◌else◌, List, [], ◌∷◌, ◌++◌, length, drop, nat_eq, slice_get}
+use Rattle.std.specs.Prelude.{ℕ, ◌≡◌, ◌+◌, ◌<◌, ◌^◌, Bool, false, ◌&&◌, ◌||◌, not, ◌==◌, if◌then◌else◌, Option, List, [], ◌∷◌, ◌++◌, length, drop, nat_eq, slice_get}
 use Rattle.std.specs.BTreeMap as tree
 use Rattle.std.specs.HashMap.{HashMap, get}
 use Rattle.std.specs.Option.{option_map_or}
 use Rattle.std.specs.Ordering.{nat_cmp}
 use Rattle.std.specs.VecDeque.{deque_items}
-use Rattle.machine_model.specs.LawfulLog.{concerns, grows_taken, is_acquire, is_loss, is_of_line, is_on, is_sent, lost_since_asking, sent_on, taken_on}
+use Rattle.machine_model.specs.LawfulLog.{concerns, grows_taken, is_acquire, is_loss, is_of_line, is_on, is_sent, lost_since_asking}
 use Rattle.lawful_log.specs.Facts.{Known, counted, no_tallies, tallies_of}
 use Rattle.lawful_log.specs.declared.followed.Followed.{Followed}
 use Rattle.lawful_log.specs.declared.lines.HartLog.{HartLog}
@@ -84,6 +84,17 @@ moved Taken m waiting = drop 1 waiting
 abbrev pub waiting_after : Channel → ℕ → Logged → List Msg → List Msg
 waiting_after c h e waiting = if is_on c (channel_of e.message) then (if e.hart == h then moved e.direction e.message waiting else waiting) else waiting
 
+-- what waits in a queue behind a log: with each message that is taken the first one leaves it, whichever was taken
+abbrev pub waiting_from : Channel → ℕ → List Msg → List Logged → List Msg
+waiting_from c h waiting [] = waiting
+waiting_from c h waiting (e ∷ log) = waiting_from c h (waiting_after c h e waiting) log
+
+abbrev pub waiting_of : Channel → ℕ → List Logged → List Msg
+waiting_of c h log = waiting_from c h [] log
+
+abbrev pub waits_first : ℕ → Msg → List Logged → Option Msg
+waits_first h m log = slice_get (waiting_of (channel_of m) h log) 0
+
 -- ---- the maps and the queues say of a log what the rules ask for
 
 abbrev pub hart_known_of : ℕ → ℕ → List Logged → HartKnown
@@ -96,7 +107,7 @@ hart_known_of h line log = record {
 pub record Follows (f : Followed) (log : List Logged) : Type 0 where
   pub harts : (h line : ℕ) → known_in f.lines h line ≡ hart_known_of h line log
   pub lines : (line : ℕ) → all_in f.lines line ≡ tallies_of (is_of_line line) log
-  pub queues : (c : Channel) (h : ℕ) → taken_on c h log ++ waiting_on f.queues c h ≡ sent_on c h log
+  pub queues : (c : Channel) (h : ℕ) → waiting_on f.queues c h ≡ waiting_of c h log
 
 -- of some log to which one more entry can be added
 abbrev pub IsFollowable : Followed → Type 0

@@ -1,10 +1,7 @@
 //! What a log says so far of each line and each queue, kept as the log grows.
 ghost use Rattle.std.specs.Prelude.{◌≡◌, ◌+◌, ◌<◌, ℕ, List, ◌∷◌, ◌++◌, [], OnOk, if◌then◌else◌};
-ghost use Rattle.lawful_log.specs.Facts.{FindsBreach, FindsBroken, HaveRoom, counted, front_for, known_of};
-ghost use Rattle.lawful_log.specs.Followed.{Follows, IsFollowable, all_in, known_from, known_in, noted};
-ghost use Rattle.lawful_log.specs.Rules.{Obeys};
-ghost use Rattle.lawful_log.specs.declared.profile.Profile.{Profile as ProfileValue};
-ghost use Rattle.lawful_log.specs.declared.rule.LogRule.TheVariants.{InOrder};
+ghost use Rattle.lawful_log.specs.Facts.{FindsBreach, FindsBroken, HaveRoom, counted, known_of};
+ghost use Rattle.lawful_log.specs.Followed.{Follows, IsFollowable, all_in, known_from, known_in, noted, waits_first};
 ghost use Rattle.machine_model.specs.LawfulLog.{concerns, is_of_line};
 ghost use Rattle.trace_recorder.specs.declared.logged.Logged.{Logged as LoggedValue};
 
@@ -17,8 +14,9 @@ use std::alloc::{AllocError, Global};
 use std::collections::HashMap;
 use trace_recorder::{Direction, Logged};
 
-/// What a log says so far.
-pub(crate) struct Followed {
+/// What a log says so far, lawful or not: what the rules count, and what waits in each queue. With each message that is
+/// taken the first one leaves its queue, whichever was taken.
+pub struct Followed {
     /// By the line's address, what was said of it.
     lines: HashMap<u32, LineLog>,
     queues: Queues,
@@ -36,7 +34,7 @@ impl Drop for Followed {
 
 impl Followed {
     /// Of a log with no entry.
-    pub(crate) fn new(alloc: Global) -> Followed
+    pub fn new(alloc: Global) -> Followed
         ensures { Follows result [] }
     {
         Followed {
@@ -45,10 +43,10 @@ impl Followed {
         }
     }
 
-    /// The first rule that the next entry breaks.
-    pub(crate) fn broken(&self, profile: Profile, entry: &Logged) -> Option<LogRule>
+    /// The first rule that the next entry breaks, by what was counted and what waits in front of its queue.
+    pub fn broken(&self, profile: Profile, entry: &Logged) -> Option<LogRule>
         ensures { (log : List LoggedValue) → Follows self.now log
-            → FindsBreach profile (front_for entry.now.hart entry.now.message log) (known_of entry.now.hart entry.now.message.line log) entry.now result }
+            → FindsBreach profile (waits_first entry.now.hart entry.now.message log) (known_of entry.now.hart entry.now.message.line log) entry.now result }
     {
         match entry.direction {
             Direction::Sent => broken_by_sending(&self.lines, profile, entry),
@@ -62,10 +60,10 @@ impl Followed {
         }
     }
 
-    /// One more entry, in its queue's order.
-    pub(crate) fn note(&mut self, alloc: Global, entry: &Logged) -> Result<(), AllocError>
+    /// One more entry, whether it breaks a rule or not. The only error is want of memory.
+    pub fn note(&mut self, alloc: Global, entry: &Logged) -> Result<(), AllocError>
         requires { IsFollowable self.old }
-        ensures { OnOk result ((profile : ProfileValue) (log : List LoggedValue) → Follows self.old log → Obeys profile InOrder log entry.now → Follows self.new (log ++ entry.now ∷ [])) }
+        ensures { OnOk result ((log : List LoggedValue) → Follows self.old log → Follows self.new (log ++ entry.now ∷ [])) }
     {
         note_line(alloc, &mut self.lines, entry)?;
         self.queues.note(entry)?;

@@ -13,5 +13,6 @@ mod tallies;
 
 pub use awaited::{Answer, Awaited, first_awaited};
 pub use checking::check_log;
+pub use followed::Followed;
 pub use profile::Profile;
 pub use rule::{LogRule, LogVerdict, entries_decide, profiles_nest};

@@ -1,4 +1,5 @@
 mod Lines
+mod Expanding
 mod Placed
 pub mod Running
 pub mod Taken

@@ -5,6 +5,7 @@ use Rattle.coherent_log.specs.declared.clients.Probed.{Probed}
 use Rattle.coherent_log.specs.declared.verdict.Breach.{Breach}
 use Rattle.coherent_log.specs.declared.verdict.Breach.TheVariants.{PermissionHeld, ProbeObeyed, OneWriter, DataAsked, DataKept}
 use Rattle.log_text.specs.Places.{IsPlaceOf}
+use Rattle.log_text.specs.declared.place.LogText.{LogText}
 use Rattle.log_text.specs.declared.contradiction.Contradiction.{Contradiction}
 use Rattle.trace_recorder.specs.declared.logged.Logged.{Logged}
 
@@ -30,12 +31,12 @@ probe_of (ProbeObeyed held probe) = index_of probe
 probe_of _ = None
 
 -- the breach, the entry at that index, and where the messages that it contradicts stand; nothing beyond the log
-pub record IsContradiction (broken : Breach) (index : ℕ) (log : List Logged) (bytes : List ℕ) (c : Contradiction) : Type 0 where
+pub record IsContradiction (broken : Breach) (index : ℕ) (log : List Logged) (text : LogText) (c : Contradiction) : Type 0 where
   pub breach : c.breach ≡ broken
   pub entry : slice_get log index ≡ Some c.entry
-  pub cause : IsPlaceOf (cause_of broken) bytes c.cause
-  pub probe : IsPlaceOf (probe_of broken) bytes c.probe
+  pub cause : IsPlaceOf (cause_of broken) text c.cause
+  pub probe : IsPlaceOf (probe_of broken) text c.probe
 
-abbrev pub Contradicts : Breach → ℕ → List Logged → List ℕ → Option Contradiction → Type 0
-Contradicts breach index log bytes None = length log ≤ index
-Contradicts breach index log bytes (Some c) = IsContradiction breach index log bytes c
+abbrev pub Contradicts : Breach → ℕ → List Logged → LogText → Option Contradiction → Type 0
+Contradicts breach index log text None = length log ≤ index
+Contradicts breach index log text (Some c) = IsContradiction breach index log text c

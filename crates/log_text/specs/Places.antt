@@ -1,6 +1,8 @@
 -- On which line of a text a message stands, and by which name.
 use Rattle.std.specs.Prelude.{ℕ, ◌≡◌, ◌+◌, ◌-◌, Bool, true, false, ◌&&◌, List, ◌∷◌, [], Option, Some, None, ◌==◌, codes, if◌then◌else◌, is_some, option_map}
+use Rattle.log_text.specs.Meant.{source_line}
 use Rattle.log_text.specs.Names.{name_at}
+use Rattle.log_text.specs.declared.place.LogText.{LogText}
 use Rattle.log_text.specs.declared.place.Place.{Place}
 use Rattle.text_fields.specs.Reading.{after}
 
@@ -21,11 +23,13 @@ message_line is_start lines messages (byte ∷ bytes) =
     else message_line (byte == 10) (lines_behind byte lines) messages bytes
 
 -- the message stands there, and has this name, if it has one; or the text has no such message
-abbrev pub IsPlace : ℕ → List ℕ → Option Place → Type 0
-IsPlace index text None = message_line true 0 index text ≡ None
-IsPlace index text (Some place) = (message_line true 0 index text ≡ Some place.line) × (option_map (λ name. name.now) place.name ≡ name_at index text)
+abbrev pub IsPlace : ℕ → LogText → Option Place → Type 0
+IsPlace index text None = message_line true 0 index text.meant.now ≡ None
+IsPlace index text (Some place) =
+    (option_map (source_line text.skip text.source.now) (message_line true 0 index text.meant.now) ≡ Some place.line)
+    × (option_map (λ name. name.now) place.name ≡ name_at index text.meant.now)
 
 -- that is where it stands, if there is one that is meant
-abbrev pub IsPlaceOf : Option ℕ → List ℕ → Option Place → Type 0
+abbrev pub IsPlaceOf : Option ℕ → LogText → Option Place → Type 0
 IsPlaceOf None text place = place ≡ None
 IsPlaceOf (Some index) text place = IsPlace index text place

@@ -3,7 +3,7 @@ ghost use Rattle.std.specs.Prelude.{◌≡◌};
 ghost use Rattle.log_text.specs.Contradictions.{Contradicts, cause_of, index_of, probe_of, since_of};
 ghost use Rattle.log_text.specs.Places.{IsPlaceOf};
 
-use crate::place::Place;
+use crate::place::{LogText, Place};
 use crate::spelling::{Routed, cap_name, change_name};
 use coherent_log::{Breach, Held, Probed};
 use std::fmt;
@@ -27,19 +27,19 @@ pub struct Contradiction<'a> {
 impl<'a> Contradiction<'a> {
     /// Of the entry at `index` of a log that stands in this text, which the breach is of. None beyond the log.
     pub fn of(
-        bytes: &'a [u8],
+        text: LogText<'a>,
         log: &[Logged],
         breach: Breach,
         index: usize,
     ) -> Option<Contradiction<'a>>
-        ensures { Contradicts breach index log.now bytes.now result }
+        ensures { Contradicts breach index log.now text.entry result }
     {
         let entry = *log.get(index)?;
         Some(Contradiction {
             breach,
             entry,
-            cause: place_of(bytes, cause_of(breach)),
-            probe: place_of(bytes, probe_of(breach)),
+            cause: place_of(text, cause_of(breach)),
+            probe: place_of(text, probe_of(breach)),
         })
     }
 
@@ -155,8 +155,8 @@ fn probe_of(breach: Breach) -> Option<usize>
 }
 
 // Where the message of this number stands.
-fn place_of(text: &[u8], index: Option<usize>) -> Option<Place<'_>>
-    ensures { IsPlaceOf index text.now result }
+fn place_of(text: LogText<'_>, index: Option<usize>) -> Option<Place<'_>>
+    ensures { IsPlaceOf index text.entry result }
 {
     match index {
         Some(index) => Place::of(text, index),

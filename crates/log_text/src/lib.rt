@@ -4,6 +4,7 @@
 
 mod contradiction;
 mod ending;
+mod meant;
 mod names;
 mod objection;
 mod place;
@@ -14,9 +15,10 @@ mod waiting;
 
 pub use contradiction::Contradiction;
 pub use ending::end_text;
+pub use meant::{foreign_messages, meant_text, source_line};
 pub use message_judge;
 pub use names::{misnamed_line, name_of_message, without_names};
 pub use objection::Objection;
-pub use place::{Place, line_of_message};
+pub use place::{LogText, Place, line_of_message};
 pub use unanswered::Unanswered;
-pub use verdict::put_verdict;
+pub use verdict::{put_told, put_verdict};

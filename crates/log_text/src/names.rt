@@ -69,7 +69,7 @@ pub fn misnamed_line(text: &[u8]) -> Option<usize>
 }
 
 // The first line, without its line feed, and what stands behind that.
-fn first_line(text: &[u8]) -> (&[u8], Option<&[u8]>)
+pub(crate) fn first_line(text: &[u8]) -> (&[u8], Option<&[u8]>)
     ensures lines { names.lines_of text.now ≡ result.0.now ∷ names.lines_left (option_map (λ rest. rest.now) result.1) }
     ensures shorter { IfSome result.1 (λ rest. length rest.now < length text.now) }
 {
@@ -87,7 +87,7 @@ fn line_feed(text: &[u8]) -> Option<usize>
     text.iter().position(|byte| *byte == b'\n')
 }
 
-fn is_message_line(line: &[u8]) -> bool
+pub(crate) fn is_message_line(line: &[u8]) -> bool
     ensures { result ≡ names.is_message_line line.now }
 {
     after(b"M ", line).is_some()

@@ -2,10 +2,21 @@
 ghost use Rattle.std.specs.Prelude.{◌≡◌, true};
 ghost use Rattle.log_text.specs.Places.{IsPlace, message_line};
 
+use crate::meant::source_line;
 use crate::names::name_of_message;
 use std::fmt;
 use std::fmt::Display;
 use text_fields::after;
+
+/// A log's text, and what it stands for.
+#[derive(Clone, Copy)]
+pub struct LogText<'a> {
+    pub source: &'a [u8],
+    /// Whether messages of TL-UL and TL-UH were skipped in it.
+    pub skip: bool,
+    /// What it stands for (`meant_text`), with its messages' names.
+    pub meant: &'a [u8],
+}
 
 /// Where a message stands in a log's text, and the name that it has there. Its text is as `line 5`, or `line 5 (at 120)`.
 #[derive(Clone, Copy)]
@@ -16,14 +27,15 @@ pub struct Place<'a> {
 }
 
 impl<'a> Place<'a> {
-    /// Of the message of this index, counted from 0. None where the text has no such message.
-    pub fn of(text: &'a [u8], index: usize) -> Option<Place<'a>>
-        ensures { IsPlace index text.now result }
+    /// Of the message of this index, counted from 0. A line that says what a hart holds at the start stands for
+    /// six messages. None where the text has no such message.
+    pub fn of(text: LogText<'a>, index: usize) -> Option<Place<'a>>
+        ensures { IsPlace index text.entry result }
     {
-        let line = line_of_message(text, index)?;
+        let line = line_of_message(text.meant, index)?;
         Some(Place {
-            line,
-            name: name_of_message(text, index),
+            line: source_line(text.source, text.skip, line),
+            name: name_of_message(text.meant, index),
         })
     }
 }

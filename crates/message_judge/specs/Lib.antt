@@ -1,4 +1,5 @@
 pub mod Names
 pub mod Laws
+pub mod Breaches
 pub use Rattle.lawful_log.specs.declared.profile.Profile
 pub use Rattle.lawful_log.specs.declared.profile.Profile.TheVariants

@@ -2,9 +2,11 @@
 //! first message that breaks one where it isn't.
 #![tactic(auto)]
 
+mod breaches;
 mod judging;
 mod verdict;
 
+pub use breaches::{Breaches, Broken, list_breaches};
 pub use judging::{judge_ended, judge_messages, lawful_by_both};
 pub use lawful_log::Profile;
 pub use verdict::{MessageBreach, MessageVerdict};

@@ -17,4 +17,4 @@ returns-in-Some-clause-lawful c = breach_decides c.args.profile c.args.log.now c
 pub loop-index-preserved : goal.loop-index-preserved
 loop-index-preserved c = passes c.args.profile c.args.log.now c.loop-index.index _ c.loop-index-test.true c.broken.result c.note.new.self
     c.loop-index.invariant.1 c.in-None.is (c.broken.ensures (take c.loop-index.index c.args.log.now) c.loop-index.invariant.0)
-    (c.in_ok-note-in-None.ensures c.args.profile (take c.loop-index.index c.args.log.now) c.loop-index.invariant.0)
+    (c.in_ok-note-in-None.ensures (take c.loop-index.index c.args.log.now) c.loop-index.invariant.0)

@@ -13,7 +13,7 @@ pub note_line-requires-clause-hart : goal.note_line-requires-clause-hart
 note_line-requires-clause-hart c = subst (λ (k : HartKnown). HaveRoom k.tallies) (sym (c.requires.1.0.harts c.args.entry.now.hart c.args.entry.now.message.line)) (have_room (concerns c.args.entry.now.hart c.args.entry.now.message.line) c.requires.0 c.requires.1.1)
 
 pub returns : goal.returns
-returns c = λ profile log follows keeps. noted_follows profile _ _ log c.args.entry.now follows keeps (record {
+returns c = λ log follows. noted_follows _ _ log c.args.entry.now follows (record {
   harts = c.in_ok-note_line.ensures.harts;
   lines = c.in_ok-note_line.ensures.all;
   queues = c.in_ok-note.ensures;
