@@ -1,5 +1,5 @@
 -- A search of an image with words replaced.
-use Rattle.std.proofs.Common.{◌≡◌, ◌≢◌, ◌≤◌, ℕ, All, Err, IfOk, List, Ok, Result, arith, length, min, subst}
+use Rattle.std.proofs.Common.{◌≡◌, ◌≤◌, true, ℕ, All, Err, IfOk, List, Ok, Result, arith, length, min}
 use Rattle.std.specs.List.Sorted.{IsStrictlySortedBy}
 use Rattle.std.specs.Ordering.{on}
 use Rattle.std.specs.declared.alloc.AllocError.{AllocError}
@@ -13,7 +13,8 @@ use Rattle.fence_audit.specs.Answers.{IsSearchOf}
 use Rattle.machine_types.specs.declared.config.Config.{Config}
 use Rattle.state_search.specs.declared.findings.Extent.TheVariants.{Complete}
 use Rattle.architecture_outcomes.specs.Complete.{TellsEachAllowed}
-use Rattle.architecture_outcomes.specs.TheVariants.{LimitMet, OutOfMemory, Whole}
+use Rattle.architecture_outcomes.specs.LeftOut.{keeps_limit}
+use Rattle.architecture_outcomes.specs.TheVariants.{Whole}
 
 -- words that can be shown of an image can be shown of one of the same size
 pub shows_same : (image made : Initial) (addresses : List ℕ) → length made.bytes ≡ length image.bytes → CanShowEach image addresses → CanShowEach made addresses
@@ -22,13 +23,12 @@ shows_same image made addresses same all = All-weaker (CanShow image) (CanShow m
     still : (address : ℕ) → CanShow image address → CanShow made address
     still address is = (is.0, (is.1.0, omega arith))
 
-module _ (image made : Initial) (same : made ≡ image) (config : Config) (addresses : List ℕ) (window limit : ℕ) where
-  pub searched : (r : Result Architecture AllocError) → IfOk r (λ a. All (IsWitnessed made config addresses) a.outcomes.items)
-      → IfOk r (λ a. a.machine ≡ Complete → TellsEachEnd made config addresses a.outcomes.items) → IfOk r (λ a. a.machine ≡ Complete → All (λ o. IsDecided o.way) a.outcomes.items)
-      → IfOk r (λ a. a.reach ≡ Whole → TellsEachAllowed made config addresses (ends_of a.outcomes.items))
-      → IfOk r (λ a. a.reach ≢ LimitMet → a.reach ≢ OutOfMemory → a.states ≤ limit) → IfOk r (λ a. IsStrictlySortedBy (on end_of outcome_cmp) a.outcomes.items)
+module _ (image : Initial) (config : Config) (addresses : List ℕ) (window limit : ℕ) where
+  pub searched : (r : Result Architecture AllocError) → IfOk r (λ a. All (IsWitnessed image config addresses) a.outcomes.items)
+      → IfOk r (λ a. a.machine ≡ Complete → TellsEachEnd image config addresses a.outcomes.items) → IfOk r (λ a. a.machine ≡ Complete → All (λ o. IsDecided o.way) a.outcomes.items)
+      → IfOk r (λ a. a.reach ≡ Whole → TellsEachAllowed image config addresses (ends_of a.outcomes.items))
+      → IfOk r (λ a. keeps_limit a.reach ≡ true → a.states ≤ limit) → IfOk r (λ a. IsStrictlySortedBy (on end_of outcome_cmp) a.outcomes.items)
       → IfOk r (λ a. a.model ≡ config.model) → IfOk r (λ a. a.window ≡ min window 64) → IfOk r (IsSearchOf image config addresses window limit)
   searched (Ok a) shown machine alone allowed bounded order model width =
-      subst (λ (i : Initial). IsSearchOf i config addresses window limit a) same
-      (record { shown = shown; machine = machine; alone = alone; allowed = allowed; bounded = bounded; order = order; model = model; window_is = width })
+      record { shown = shown; machine = machine; alone = alone; allowed = allowed; bounded = bounded; order = order; model = model; window_is = width }
   searched (Err error) shown machine alone allowed bounded order model width = tt

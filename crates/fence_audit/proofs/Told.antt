@@ -8,7 +8,7 @@ use Rattle.std.proofs.lemmas.Bool.Decides.{Decides-eqb}
 use Rattle.std.specs.Cmp.Lexicographic.{pointwise}
 use Rattle.elf_loader.specs.Image.{Initial, word_at}
 use Rattle.fence_audit.specs.Adding.{IsAddition, IsAllowance, IsMissing, IsReverted}
-use Rattle.fence_audit.specs.Answers.{IsSearchOf, answer_as, is_enough, is_whole, refused_place}
+use Rattle.fence_audit.specs.Answers.{IsSearchIn, answer_as, is_enough, is_whole, refused_place}
 use Rattle.fence_audit.specs.Auditing.{ArePartsOf, AreWeighed, AreWeighedBy, HasEnoughBelow, IsAudit, IsAuditBy, IsEnough, IsLeftOut, IsReduction, IsSame, IsWeighed, audit_with, is_below}
 use Rattle.std.specs.declared.alloc.AllocError.{AllocError}
 use Rattle.fence_audit.specs.declared.searches.Asking.{Asking}
@@ -23,6 +23,7 @@ use Rattle.fence_audit.specs.declared.auditing.Parts.{Parts}
 use Rattle.machine_types.specs.declared.config.Config.{Config}
 use Rattle.fence_audit.specs.declared.answers.Answer.TheVariants.{Bounded, Fewer, Other, Same}
 use Rattle.fence_audit.specs.declared.searches.Search.{Search}
+use Rattle.fence_audit.specs.declared.searches.World.{World}
 use Rattle.image_orderings.proofs.Variants.{variant_of_variant}
 use Rattle.image_orderings.specs.Forms.{IsVariant, weaker_words}
 use Rattle.image_orderings.specs.Programs.{patches_with, patches_without}
@@ -241,41 +242,42 @@ addition_of asking own own' most most' last searches e f is =
 
 -- ---- an audit
 
-module _ (image : Initial) (config : Config) (addresses : List ℕ) (window limit : ℕ) where
-  pub audited : (answers : Architecture → Answer) (known : Architecture) (parts : Parts) (audit : Audit) (whole : Bool) → IsSearchOf image config addresses window limit known
-      → ArePartsOf image config addresses window limit answers whole parts → whole ≡ is_whole known → audit ≡ audit_with known parts → IsAuditBy image config addresses window limit answers audit
+module _ (world : World) (image : Initial) (config : Config) (addresses : List ℕ) (window limit : ℕ) where
+  pub audited : (answers : Architecture → Answer) (known : Architecture) (parts : Parts) (audit : Audit) (whole : Bool) → IsSearchIn world image config addresses window limit known
+      → ArePartsOf world image config addresses window limit answers whole parts → whole ≡ is_whole known → audit ≡ audit_with world known parts → IsAuditBy world image config addresses window limit answers audit
   audited answers known parts audit whole found are is made =
-      subst (IsAuditBy image config addresses window limit answers) (sym made)
-      (record { known = found; parts = subst (λ (b : Bool). ArePartsOf image config addresses window limit answers b parts) is are })
+      subst (IsAuditBy world image config addresses window limit answers) (sym made)
+      (record { world_is = refl; known = found; parts = subst (λ (b : Bool). ArePartsOf world image config addresses window limit answers b parts) is are })
 
   -- beside its own outcomes
-  pub audited_as : (known : Architecture) (outcomes : List Outcome) (parts : Parts) (audit : Audit) (whole : Bool) → outcomes ≡ known.outcomes.items → IsSearchOf image config addresses window limit known
-      → ArePartsOf image config addresses window limit (answer_as outcomes) whole parts → whole ≡ is_whole known → audit ≡ audit_with known parts → IsAudit image config addresses window limit audit
+  pub audited_as : (known : Architecture) (outcomes : List Outcome) (parts : Parts) (audit : Audit) (whole : Bool) → outcomes ≡ known.outcomes.items → IsSearchIn world image config addresses window limit known
+      → ArePartsOf world image config addresses window limit (answer_as outcomes) whole parts → whole ≡ is_whole known → audit ≡ audit_with world known parts → IsAudit world image config addresses window limit audit
   audited_as known outcomes parts audit whole same found are is made =
-      subst (IsAudit image config addresses window limit) (sym made)
+      subst (IsAudit world image config addresses window limit) (sym made)
       (record {
+        world_is = refl;
         known = found;
-        parts = subst (λ (xs : List Outcome). ArePartsOf image config addresses window limit (answer_as xs) (is_whole known) parts) same
-            (subst (λ (b : Bool). ArePartsOf image config addresses window limit (answer_as outcomes) b parts) is are);
+        parts = subst (λ (xs : List Outcome). ArePartsOf world image config addresses window limit (answer_as xs) (is_whole known) parts) same
+            (subst (λ (b : Bool). ArePartsOf world image config addresses window limit (answer_as outcomes) b parts) is are);
       })
 
   -- and beside what is allowed
-  pub kept : (answers : Architecture → Answer) (known : Architecture) (parts : Parts) (audit : Audit) (whole : Bool) → refused_place (answers known) ≡ None → IsSearchOf image config addresses window limit known
-      → ArePartsOf image config addresses window limit answers whole parts → whole ≡ is_whole known → audit ≡ audit_with known parts → IsAllowance image config addresses window limit answers (Kept audit)
+  pub kept : (answers : Architecture → Answer) (known : Architecture) (parts : Parts) (audit : Audit) (whole : Bool) → refused_place (answers known) ≡ None → IsSearchIn world image config addresses window limit known
+      → ArePartsOf world image config addresses window limit answers whole parts → whole ≡ is_whole known → audit ≡ audit_with world known parts → IsAllowance world image config addresses window limit answers (Kept audit)
   kept answers known parts audit whole none found are is made =
       record {
         allowed = subst (λ (a : Audit). refused_place (answers a.known) ≡ None) (sym made) none;
         needs = audited answers known parts audit whole found are is made;
       }
 
-  pub broken : (answers : Architecture → Answer) (known : Architecture) (place : ℕ) (missing : Missing) → refused_place (answers known) ≡ Some place → IsSearchOf image config addresses window limit known
-      → IsMissing image config addresses window limit answers known place missing → IsAllowance image config addresses window limit answers (Broken missing)
+  pub broken : (answers : Architecture → Answer) (known : Architecture) (place : ℕ) (missing : Missing) → refused_place (answers known) ≡ Some place → IsSearchIn world image config addresses window limit known
+      → IsMissing world image config addresses window limit answers known place missing → IsAllowance world image config addresses window limit answers (Broken missing)
   broken answers known place missing refused found lacks =
       let known_is = sym lacks.known_is in
       let place_is = sym lacks.place_is in
       record {
-        known = subst (IsSearchOf image config addresses window limit) known_is found;
+        known = subst (IsSearchIn world image config addresses window limit) known_is found;
         refused = subst (λ (k : Architecture). refused_place (answers k) ≡ Some missing.place) known_is (subst (λ (p : ℕ). refused_place (answers known) ≡ Some p) place_is refused);
-        lacks = subst (λ (k : Architecture). IsMissing image config addresses window limit answers k missing.place missing) known_is
-            (subst (λ (p : ℕ). IsMissing image config addresses window limit answers known p missing) place_is lacks);
+        lacks = subst (λ (k : Architecture). IsMissing world image config addresses window limit answers k missing.place missing) known_is
+            (subst (λ (p : ℕ). IsMissing world image config addresses window limit answers known p missing) place_is lacks);
       }

@@ -5,7 +5,8 @@ use Rattle.std.specs.List.Sorted.{IsStrictlySortedBy}
 use Rattle.std.specs.Ordering.{on}
 use Rattle.allowed_outcomes.specs.Allowing.{without_number}
 use Rattle.allowed_outcomes.specs.Known.{allows_line}
-use Rattle.architecture_outcomes.specs.Outcomes.{IsDecided, IsWitnessed, TellsEachEnd, end_of, ends_of, tells}
+use Rattle.architecture_outcomes.specs.ExplorerOutcomes.{HasEachEnd}
+use Rattle.architecture_outcomes.specs.Outcomes.{IsDecided, IsMachine, IsWitnessed, TellsEachEnd, end_of, ends_of, tells}
 use Rattle.architecture_outcomes.specs.declared.architecture.Architecture.{Architecture}
 use Rattle.architecture_outcomes.specs.declared.outcome.Outcome.{Outcome}
 use Rattle.elf_loader.specs.Image.{Initial}
@@ -16,12 +17,15 @@ use Rattle.fence_audit.specs.declared.answers.Answer.{Answer}
 use Rattle.fence_audit.specs.declared.answers.Answer.TheVariants.{Bounded, Fewer, Other, Same}
 use Rattle.fence_audit.specs.declared.answers.Standard.{Standard}
 use Rattle.fence_audit.specs.declared.answers.Standard.TheVariants.{AsItIs, Within}
+use Rattle.fence_audit.specs.declared.searches.World.{World}
+use Rattle.fence_audit.specs.declared.searches.World.TheVariants.{Machine, Model}
 use Rattle.machine_types.specs.declared.config.Config.{Config}
 use Rattle.state_search.specs.declared.findings.Extent.{Extent}
 use Rattle.state_search.specs.declared.findings.Extent.TheVariants.{Complete}
 use Rattle.architecture_outcomes.specs.Complete.{TellsEachAllowed}
 use Rattle.architecture_outcomes.specs.Reach.{Reach}
-use Rattle.architecture_outcomes.specs.TheVariants.{LimitMet, OutOfMemory, Whole}
+use Rattle.architecture_outcomes.specs.LeftOut.{keeps_limit}
+use Rattle.architecture_outcomes.specs.TheVariants.{Whole}
 
 -- ---- a search
 
@@ -32,7 +36,7 @@ pub record IsSearchOf (image : Initial) (config : Config) (addresses : List ℕ)
   pub machine : found.machine ≡ Complete → TellsEachEnd image config addresses found.outcomes.items
   pub alone : found.machine ≡ Complete → All (λ o. IsDecided o.way) found.outcomes.items
   pub allowed : found.reach ≡ Whole → TellsEachAllowed image config addresses (ends_of found.outcomes.items)
-  pub bounded : found.reach ≢ LimitMet → found.reach ≢ OutOfMemory → found.states ≤ limit
+  pub bounded : keeps_limit found.reach ≡ true → found.states ≤ limit
   pub order : IsStrictlySortedBy (on end_of outcome_cmp) found.outcomes.items
   pub model : found.model ≡ config.model
   pub window_is : found.window ≡ min window 64
@@ -40,6 +44,22 @@ pub record IsSearchOf (image : Initial) (config : Config) (addresses : List ℕ)
 abbrev pub whole_by : Reach → Extent → Bool
 whole_by Whole Complete = true
 whole_by _ _ = false
+
+-- the same of a search of this machine alone, of which nothing is asked of the model, and so nothing of it left out: each outcome is told as the machine's, and where the search is complete, each that it has
+pub record IsMachineSearchOf (image : Initial) (config : Config) (addresses : List ℕ) (window limit : ℕ) (found : Architecture) : Type 0 where
+  pub shown : All (IsWitnessed image config addresses) found.outcomes.items
+  pub machine : found.machine ≡ Complete → HasEachEnd image config addresses (ends_of found.outcomes.items)
+  pub alone : All (λ o. IsMachine o.way) found.outcomes.items
+  pub bounded : found.machine_states ≤ limit
+  pub order : IsStrictlySortedBy (on end_of outcome_cmp) found.outcomes.items
+  pub model : found.model ≡ config.model
+  pub window_is : found.window ≡ min window 64
+  pub unasked : found.reach ≡ Whole
+
+-- of what is asked
+abbrev pub IsSearchIn : World → Initial → Config → (addresses : List ℕ) → (window limit : ℕ) → Architecture → Type 0
+IsSearchIn Model image config addresses window limit found = IsSearchOf image config addresses window limit found
+IsSearchIn Machine image config addresses window limit found = IsMachineSearchOf image config addresses window limit found
 
 -- neither the search under the model nor the machine's own met a bound
 abbrev pub is_whole : Architecture → Bool

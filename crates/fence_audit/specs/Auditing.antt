@@ -1,16 +1,19 @@
 -- What an audit of a program's orderings has searched, and what it leaves.
-use Rattle.std.specs.Prelude.{◌≡◌, ◌⊎◌, ℕ, All, Bool, List, Some, true}
+use Rattle.std.specs.Prelude.{◌≡◌, ◌⊎◌, ℕ, All, Bool, List, None, Option, Some, slice_get, true}
 use Rattle.elf_loader.specs.Image.{Initial, word_at}
 use Rattle.architecture_outcomes.specs.declared.architecture.Architecture.{Architecture}
-use Rattle.fence_audit.specs.Answers.{IsSearchOf, answer_as, is_whole}
-use Rattle.fence_audit.specs.Searches.{AreSearched, IsAsked, IsSearched, answer_in}
+use Rattle.architecture_outcomes.specs.declared.outcome.Outcome.{Outcome}
+use Rattle.fence_audit.specs.Answers.{IsSearchIn, answer_as, is_whole, refused_place}
+use Rattle.fence_audit.specs.Searches.{AreSearched, IsAsked, IsSearched, answer_in, search_in}
 use Rattle.fence_audit.specs.declared.answers.Answer.{Answer}
 use Rattle.fence_audit.specs.declared.answers.Answer.TheVariants.{Same}
 use Rattle.fence_audit.specs.declared.auditing.Audit.{Audit}
 use Rattle.fence_audit.specs.declared.auditing.Parts.{Parts}
 use Rattle.fence_audit.specs.declared.searches.Asking.{Asking}
 use Rattle.fence_audit.specs.declared.searches.Search.{Search}
+use Rattle.fence_audit.specs.declared.searches.World.{World}
 use Rattle.image_orderings.specs.Forms.{is_weaker, weaker_words}
+use Rattle.image_orderings.specs.Meeting.{IsMetOrNever, met_orderings}
 use Rattle.image_orderings.specs.Orderings.{orderings_of}
 use Rattle.image_orderings.specs.Programs.{own_patches, patches_with, patches_without}
 use Rattle.image_orderings.specs.Replaced.{addresses_of}
@@ -70,27 +73,48 @@ pub record IsReduction (asking : Asking) (orderings : List ImageOrdering) (own :
 
 -- ---- an audit
 
--- all that orders was found; where the program as it is was searched whole, it was searched without each ordering, of each FENCE that is needed with each weaker one, and the last program, without each of its orderings; each search is what it says
-pub record ArePartsOf (image : Initial) (config : Config) (addresses : List ℕ) (window limit : ℕ) (answers : Architecture → Answer) (whole : Bool) (parts : Parts) : Type 0 where
+-- all that orders was found, and to which of it a hart may come, while to the rest none ever does; where the program as it is was searched whole, it was searched without each ordering to which one may come, of each FENCE that is needed with each weaker one, and the last program, without each of its orderings; each search is what it says
+pub record ArePartsOf (world : World) (image : Initial) (config : Config) (addresses : List ℕ) (window limit : ℕ) (answers : Architecture → Answer) (whole : Bool) (parts : Parts) : Type 0 where
   pub orderings : parts.orderings.items ≡ orderings_of image
+  pub met : parts.met.items ≡ met_orderings image parts.orderings.items
+  pub never : All (λ (o : ImageOrdering). IsMetOrNever image o.address) parts.orderings.items
   pub own : parts.own.items ≡ own_patches image parts.orderings.items
-  pub searched : All (IsSearched image config addresses window limit answers) parts.searches.items
-  pub alone : whole ≡ true → All (IsLeftOut parts.searches.items parts.own.items) parts.orderings.items
-  pub weighed : whole ≡ true → All (AreWeighed image parts.searches.items parts.own.items) parts.orderings.items
+  pub searched : All (IsSearched world image config addresses window limit answers) parts.searches.items
+  pub alone : whole ≡ true → All (IsLeftOut parts.searches.items parts.own.items) parts.met.items
+  pub weighed : whole ≡ true → All (AreWeighed image parts.searches.items parts.own.items) parts.met.items
   pub enough : whole ≡ true → IsEnough parts.own.items parts.searches.items parts.last.items
-  pub each : whole ≡ true → All (IsLeftOut parts.searches.items parts.last.items) parts.orderings.items
+  pub each : whole ≡ true → All (IsLeftOut parts.searches.items parts.last.items) parts.met.items
 
 abbrev pub parts_in : Audit → Parts
-parts_in audit = record { orderings = audit.orderings; own = audit.own; searches = audit.searches; last = audit.last }
+parts_in audit = record { orderings = audit.orderings; met = audit.met; own = audit.own; searches = audit.searches; last = audit.last }
 
-abbrev pub audit_with : Architecture → Parts → Audit
-audit_with known parts = record { known = known; orderings = parts.orderings; own = parts.own; searches = parts.searches; last = parts.last }
+abbrev pub audit_with : World → Architecture → Parts → Audit
+audit_with world known parts = record { world = world; known = known; orderings = parts.orderings; met = parts.met; own = parts.own; searches = parts.searches; last = parts.last }
 
 -- the program as it is was searched, and then others, each beside what it is to have
-pub record IsAuditBy (image : Initial) (config : Config) (addresses : List ℕ) (window limit : ℕ) (answers : Architecture → Answer) (audit : Audit) : Type 0 where
-  pub known : IsSearchOf image config addresses window limit audit.known
-  pub parts : ArePartsOf image config addresses window limit answers (is_whole audit.known) (parts_in audit)
+pub record IsAuditBy (world : World) (image : Initial) (config : Config) (addresses : List ℕ) (window limit : ℕ) (answers : Architecture → Answer) (audit : Audit) : Type 0 where
+  pub world_is : audit.world ≡ world
+  pub known : IsSearchIn world image config addresses window limit audit.known
+  pub parts : ArePartsOf world image config addresses window limit answers (is_whole audit.known) (parts_in audit)
 
 -- each is to have the outcomes of the program as it is
-abbrev pub IsAudit : Initial → Config → (addresses : List ℕ) → (window limit : ℕ) → Audit → Type 0
-IsAudit image config addresses window limit audit = IsAuditBy image config addresses window limit (answer_as audit.known.outcomes.items) audit
+abbrev pub IsAudit : World → Initial → Config → (addresses : List ℕ) → (window limit : ℕ) → Audit → Type 0
+IsAudit world image config addresses window limit audit = IsAuditBy world image config addresses window limit (answer_as audit.known.outcomes.items) audit
+
+-- ---- what shows that an ordering is needed
+
+abbrev pub outcome_at : List Outcome → (place : Option ℕ) → Option Outcome
+outcome_at outcomes None = None
+outcome_at outcomes (Some place) = slice_get outcomes place
+
+-- the first outcome of a search that isn't one of those that there are to be
+abbrev pub shown_by : Search → Option Outcome
+shown_by search = outcome_at search.found.outcomes.items (refused_place search.answer)
+
+abbrev pub shown_in : Option Search → Option Outcome
+shown_in None = None
+shown_in (Some search) = shown_by search
+
+-- of the program without the ordering
+abbrev pub shown_without : Audit → ImageOrdering → Option Outcome
+shown_without audit o = shown_in (search_in audit.searches.items (patches_without o audit.own.items))

@@ -10,7 +10,8 @@ use Rattle.fence_audit.specs.declared.allowing.Missing.{Missing}
 use Rattle.fence_audit.specs.declared.answers.Answer.{Answer}
 use Rattle.fence_audit.specs.declared.answers.Answer.TheVariants as answer
 use Rattle.fence_audit.specs.declared.searches.Search.{Search}
-use Rattle.fence_audit.specs.Text.{bound_text, counted, end_at, is_another, minimal_text, outcomes_text, word_text}
+use Rattle.fence_audit.specs.declared.searches.World.{World}
+use Rattle.fence_audit.specs.Text.{bound_text, counted, end_at, is_another, minimal_text, outcomes_text, searched_text, word_text}
 use Rattle.image_orderings.specs.Forms.{nop}
 use Rattle.image_orderings.specs.Programs.{patches_with, word_in}
 use Rattle.image_orderings.specs.declared.replacing.Patch.{Patch}
@@ -83,12 +84,12 @@ found_text names symbols m (Some search) = answer_text names symbols m search se
 abbrev pub refused_text : List WordName → Missing → List ℕ
 refused_text names m = codes "not allowed:" ++ (end_at names (slice_get m.known.outcomes.items m.place) ++ codes "\n")
 
-abbrev pub count_text : (places programs outcomes : ℕ) → List ℕ
-count_text places programs outcomes =
-    codes "searched: " ++ (counted places (codes " places, ") ++ (counted programs (codes " programs, ") ++ outcomes_text outcomes))
+abbrev pub count_text : World → (places programs outcomes : ℕ) → List ℕ
+count_text world places programs outcomes =
+    searched_text world ++ (counted places (codes " places, ") ++ (counted programs (codes " programs, ") ++ outcomes_text outcomes))
 
 abbrev pub counts_text : Missing → List ℕ
-counts_text m = count_text (length m.own.items) (length m.searches.items + 1) (length m.known.outcomes.items)
+counts_text m = count_text m.world (length m.own.items) (length m.searches.items + 1) (length m.known.outcomes.items)
 
 abbrev pub missing_text : List WordName → List Named → Missing → List ℕ
 missing_text names symbols m =

@@ -3,20 +3,21 @@ use Rattle.std.specs.Prelude.{All, ◌<◌, ◌≡◌, ◌&&◌, ◌==◌, ◌++
 use Rattle.std.specs.Cmp.Lexicographic.{pointwise}
 use Rattle.architecture_outcomes.specs.declared.architecture.Architecture.{Architecture}
 use Rattle.elf_loader.specs.Image.{Initial}
-use Rattle.fence_audit.specs.Answers.{IsSearchOf, answer_of}
+use Rattle.fence_audit.specs.Answers.{IsSearchIn, answer_of}
 use Rattle.fence_audit.specs.declared.answers.Answer.{Answer}
 use Rattle.architecture_outcomes.specs.Words.{CanShowEach}
 use Rattle.fence_audit.specs.declared.searches.Asking.{Asking}
 use Rattle.fence_audit.specs.declared.searches.Question.{Question}
 use Rattle.fence_audit.specs.declared.searches.Search.{Search}
+use Rattle.fence_audit.specs.declared.searches.World.{World}
 use Rattle.image_orderings.specs.Replaced.{IsPatchOf, patched}
 use Rattle.image_orderings.specs.declared.replacing.Patch.{Patch}
 use Rattle.machine_types.specs.declared.config.Config.{Config}
 
 -- it is of the image with these words replaced, each by one that differs from it at most in what it orders, and answers by what it found
-pub record IsSearched (image : Initial) (config : Config) (addresses : List ℕ) (window limit : ℕ) (answers : Architecture → Answer) (search : Search) : Type 0 where
+pub record IsSearched (world : World) (image : Initial) (config : Config) (addresses : List ℕ) (window limit : ℕ) (answers : Architecture → Answer) (search : Search) : Type 0 where
   pub patches : All (IsPatchOf image) search.patches.items
-  pub found : IsSearchOf (patched image search.patches.items) config addresses window limit search.found
+  pub found : IsSearchIn world (patched image search.patches.items) config addresses window limit search.found
   pub answer : search.answer ≡ answers search.found
 
 abbrev pub are_same : Patch → Patch → Bool
@@ -55,7 +56,7 @@ ArePatchesOf question patches = All (IsPatchOf question.image.now) patches
 
 abbrev pub IsSearchedBy : Asking → Search → Type 0
 IsSearchedBy asking search =
-    IsSearched asking.question.image.now asking.question.config asking.question.addresses.now asking.question.window asking.question.limit (answer_of asking.standard) search
+    IsSearched asking.question.world asking.question.image.now asking.question.config asking.question.addresses.now asking.question.window asking.question.limit (answer_of asking.standard) search
 
 abbrev pub AreSearched : Asking → List Search → Type 0
 AreSearched asking searches = All (IsSearchedBy asking) searches

@@ -14,6 +14,8 @@ use Rattle.fence_audit.specs.declared.answers.Answer.{Answer}
 use Rattle.fence_audit.specs.declared.answers.Answer.TheVariants as answer
 use Rattle.fence_audit.specs.declared.auditing.Audit.{Audit}
 use Rattle.fence_audit.specs.declared.searches.Search.{Search}
+use Rattle.fence_audit.specs.declared.searches.World.{World}
+use Rattle.fence_audit.specs.declared.searches.World.TheVariants.{Machine, Model}
 use Rattle.image_orderings.specs.Forms.{weaker_words}
 use Rattle.image_orderings.specs.Programs.{is_kept, patches_with, patches_without, word_in}
 use Rattle.image_orderings.specs.declared.orderings.ImageOrdering.{ImageOrdering}
@@ -43,16 +45,22 @@ part_text Fence = codes "    "
 part_text Acquire = codes "    aq  "
 part_text Release = codes "    rl  "
 
+-- windows that are wider
+abbrev pub width_text : ℕ → List ℕ
+width_text window = codes ", windows over " ++ decimal window
+
 -- what a search left out: how far the one under the model came, or else this machine's own
 abbrev pub bound_text : Reach → (window : ℕ) → List ℕ
 bound_text reach.Whole window = codes ", this machine's states"
 bound_text reach.Unjudged window = codes ", runs of over 4096 operations"
 bound_text reach.Unclosed window = codes ", what a last pass over the states found"
-bound_text reach.WindowMet window = codes ", windows over " ++ decimal window
-bound_text reach.GuessMet window = codes ", values of loads or ways of fetching on"
-bound_text reach.CallMet window = codes ", calls by a loaded number"
-bound_text reach.RowMet window = codes ", rows over 10000 instructions without an access"
+bound_text (reach.WindowMet place) window = width_text window
+bound_text (reach.ValuesMet place) window = codes ", values of a load over 256"
+bound_text (reach.WaysMet place) window = codes ", ways of fetching on over 1000"
+bound_text (reach.CallMet place) window = codes ", calls by a loaded number"
+bound_text (reach.RowMet place) window = codes ", rows over 10000 instructions without an access"
 bound_text reach.LimitMet window = codes ", limit of states"
+bound_text (reach.Ended ending) window = codes ", ended"
 bound_text reach.OutOfMemory window = codes ", out of memory"
 
 -- the outcome at a place
@@ -109,12 +117,20 @@ weaker_text_by Release searches own address = codes ""
 abbrev pub without_text : List WordName → Audit → ImageOrdering → List ℕ
 without_text names a o = told_text names a.known.outcomes.items (search_in a.searches.items (patches_without o a.own.items))
 
+-- a hart may come there
+abbrev pub is_met : List ImageOrdering → (address : ℕ) → Bool
+is_met met address = list_any (λ (o : ImageOrdering). o.address == address) met
+
+-- of one to which a hart may come, what a search without it told, and the weaker FENCEs
+abbrev pub met_text : (met : Bool) → List WordName → Audit → ImageOrdering → List ℕ
+met_text true names a o = without_text names a o ++ weaker_text_by o.part a.searches.items a.own.items o.address
+met_text false names a o = codes "never met\n"
+
 abbrev pub ordering_text : List WordName → List Named → Audit → (previous : ℕ) → ImageOrdering → List ℕ
 ordering_text names symbols a previous o =
     head_text symbols previous a.own.items o.address
     ++ (part_text o.part
-    ++ (without_text names a o
-    ++ weaker_text_by o.part a.searches.items a.own.items o.address))
+    ++ met_text (is_met a.met.items o.address) names a o)
 
 abbrev pub ordering_texts : List WordName → List Named → Audit → (previous : ℕ) → List ImageOrdering → List ℕ
 ordering_texts names symbols a previous [] = []
@@ -147,7 +163,7 @@ is_needed_in searches last o = not (is_kept last o) || is_another (answer_in sea
 
 -- none of those that are left can be left out
 abbrev pub is_minimal : Audit → Bool
-is_minimal a = list_all (is_needed_in a.searches.items a.last.items) a.orderings.items
+is_minimal a = list_all (is_needed_in a.searches.items a.last.items) a.met.items
 
 abbrev pub minimal_text : Bool → List ℕ
 minimal_text true = codes ""
@@ -161,7 +177,7 @@ abbrev pub last_text : Audit → List ℕ
 last_text a =
     codes "enough together"
     ++ (minimal_text (is_minimal a)
-    ++ (some_text (list_any (is_kept a.last.items) a.orderings.items) a.last.items a.orderings.items
+    ++ (some_text (list_any (is_kept a.last.items) a.met.items) a.last.items a.met.items
     ++ codes "\n"))
 
 -- ---- all of it
@@ -173,12 +189,17 @@ counted number what = decimal number ++ what
 abbrev pub outcomes_text : ℕ → List ℕ
 outcomes_text outcomes = counted outcomes (codes " outcomes of the program as it is\n")
 
-abbrev pub count_text : (orderings programs outcomes : ℕ) → List ℕ
-count_text orderings programs outcomes =
-    codes "searched: " ++ (counted orderings (codes " orderings, ") ++ (counted programs (codes " programs, ") ++ outcomes_text outcomes))
+-- whose outcomes
+abbrev pub searched_text : World → List ℕ
+searched_text Model = codes "searched: "
+searched_text Machine = codes "searched on this machine: "
+
+abbrev pub count_text : World → (orderings programs outcomes : ℕ) → List ℕ
+count_text world orderings programs outcomes =
+    searched_text world ++ (counted orderings (codes " orderings, ") ++ (counted programs (codes " programs, ") ++ outcomes_text outcomes))
 
 abbrev pub counts_text : Audit → List ℕ
-counts_text a = count_text (length a.orderings.items) (length a.searches.items + 1) (length a.known.outcomes.items)
+counts_text a = count_text a.world (length a.met.items) (length a.searches.items + 1) (length a.known.outcomes.items)
 
 abbrev pub whole_text : List WordName → List Named → Audit → List ℕ
 whole_text names symbols a =

@@ -2,28 +2,30 @@
 ghost use Rattle.std.specs.Prelude.{◌≡◌, IfOk, None, Some};
 ghost use Rattle.fence_audit.specs.Adding.{IsAllowance, IsMissing};
 ghost use Rattle.allowed_outcomes.specs.Known.{allows_line};
-ghost use Rattle.fence_audit.specs.Answers.{IsSearchOf, answer_of, answer_within, refused_place};
+ghost use Rattle.fence_audit.specs.Answers.{IsSearchIn, answer_of, answer_within, refused_place};
 ghost use Rattle.fence_audit.specs.Searches.{IsReady};
 
 use crate::adding::Added;
 use crate::answers::{Standard, answer_of, is_whole, refused_place};
 use crate::auditing::{Audit, audit_with, parts_of};
-use crate::searches::{Asking, Question, Search, explore};
+use crate::searches::{Asking, Question, Search, World, explore};
 use allowed_outcomes::Allowed;
 use architecture_outcomes::Architecture;
 use exploration_text::WordName;
-use image_orderings::{Patch, patches_strengthened, places_of};
+use image_orderings::{Patch, met_places, patches_strengthened, places_of};
 use state_search::Watch;
 use std::alloc::{AllocError, Global};
 
 /// What a program lacks that has outcomes that aren't allowed. What is known of it stands at `audit_allowed`.
 #[derive(Drop)]
 pub struct Missing {
+    /// Whose outcomes were asked for.
+    pub world: World,
     /// What was found of the program as it is.
     pub known: Architecture,
     /// Of the first of its outcomes that isn't allowed.
     pub place: usize,
-    /// The words of it that may order more, by addresses.
+    /// The words of it that may order more and to which a hart may come, by addresses.
     pub own: Vec<Patch>,
     /// The same with all that they may order.
     pub most: Vec<Patch>,
@@ -54,7 +56,7 @@ pub fn audit_allowed<W: Watch>(
     watch: &W,
 ) -> Result<Allowance, AllocError>
     requires { IsReady question }
-    ensures { IfOk result (IsAllowance question.entry.image.now question.entry.config question.entry.addresses.now question.entry.window question.entry.limit (answer_within (allows_line allowed.now) names.now)) }
+    ensures { IfOk result (IsAllowance question.entry.world question.entry.image.now question.entry.config question.entry.addresses.now question.entry.window question.entry.limit (answer_within (allows_line allowed.now) names.now)) }
 {
     let known = explore(alloc, question, &[], watch)?;
     let standard = Standard::Within(names, allowed);
@@ -74,12 +76,12 @@ fn kept<W: Watch>(
     watch: &W,
 ) -> Result<Allowance, AllocError>
     requires ready { IsReady question }
-    requires known { IsSearchOf question.image.now question.config question.addresses.now question.window question.limit known }
+    requires known { IsSearchIn question.world question.image.now question.config question.addresses.now question.window question.limit known }
     requires allowed { refused_place (answer_of standard known) ≡ None }
-    ensures { IfOk result (IsAllowance question.entry.image.now question.entry.config question.entry.addresses.now question.entry.window question.entry.limit (answer_of standard.entry)) }
+    ensures { IfOk result (IsAllowance question.entry.world question.entry.image.now question.entry.config question.entry.addresses.now question.entry.window question.entry.limit (answer_of standard.entry)) }
 {
     let parts = parts_of(alloc, question, standard, is_whole(&known), watch)?;
-    Ok(Allowance::Kept(audit_with(known, parts)))
+    Ok(Allowance::Kept(audit_with(question.world, known, parts)))
 }
 
 /// What the program lacks, of which this is known: at this place an outcome that isn't allowed.
@@ -92,9 +94,9 @@ fn broken<W: Watch>(
     watch: &W,
 ) -> Result<Allowance, AllocError>
     requires ready { IsReady question }
-    requires known { IsSearchOf question.image.now question.config question.addresses.now question.window question.limit known }
+    requires known { IsSearchIn question.world question.image.now question.config question.addresses.now question.window question.limit known }
     requires refused { refused_place (answer_of standard known) ≡ Some place }
-    ensures { IfOk result (IsAllowance question.entry.image.now question.entry.config question.entry.addresses.now question.entry.window question.entry.limit (answer_of standard.entry)) }
+    ensures { IfOk result (IsAllowance question.entry.world question.entry.image.now question.entry.config question.entry.addresses.now question.entry.window question.entry.limit (answer_of standard.entry)) }
 {
     let missing = missing_of(alloc, question, standard, known, place, watch)?;
     Ok(Allowance::Broken(missing))
@@ -110,9 +112,10 @@ fn missing_of<W: Watch>(
     watch: &W,
 ) -> Result<Missing, AllocError>
     requires { IsReady question }
-    ensures { IfOk result (IsMissing question.entry.image.now question.entry.config question.entry.addresses.now question.entry.window question.entry.limit (answer_of standard.entry) known place) }
+    ensures { IfOk result (IsMissing question.entry.world question.entry.image.now question.entry.config question.entry.addresses.now question.entry.window question.entry.limit (answer_of standard.entry) known place) }
 {
-    let own = places_of(alloc, question.image)?;
+    let places = places_of(alloc, question.image)?;
+    let own = met_places(alloc, question.image, &places)?;
     let most = patches_strengthened(alloc, &own)?;
     let asking = Asking {
         alloc,
@@ -121,6 +124,7 @@ fn missing_of<W: Watch>(
     };
     let Added { searches, last } = asking.addition(&own, &most, watch)?;
     Ok(Missing {
+        world: question.world,
         known,
         place,
         own,

@@ -1,24 +1,31 @@
 //! Which of a program's orderings it needs.
 ghost use Rattle.std.specs.Prelude.{◌≡◌, All, IfOk, OnOk};
+ghost use Rattle.std.specs.Option.{option_copied};
 ghost use Rattle.elf_loader.specs.Image.{HasWord};
 ghost use Rattle.fence_audit.specs.Answers.{answer_of};
-ghost use Rattle.fence_audit.specs.Auditing.{ArePartsOf, IsAudit, IsLeftOut, IsReduction, audit_with};
+ghost use Rattle.fence_audit.specs.Auditing.{ArePartsOf, IsAudit, IsLeftOut, IsReduction, audit_with, shown_by, shown_without};
 ghost use Rattle.fence_audit.specs.Searches.{ArePatchesOf, AreSearched, Grows, IsReady};
 
-use crate::answers::{Standard, is_whole};
-use crate::searches::{Asking, Question, Search, explore};
-use architecture_outcomes::Architecture;
-use image_orderings::{ImageOrdering, Patch, orderings_of, own_patches, patches_without};
+use crate::answers::{Standard, is_whole, refused_place};
+use crate::searches::{Asking, Question, Search, World, explore, search_in};
+use architecture_outcomes::{Architecture, Outcome};
+use image_orderings::{
+    ImageOrdering, Patch, met_orderings, orderings_of, own_patches, patches_without,
+};
 use state_search::Watch;
 use std::alloc::{AllocError, Global};
 
 /// Which of a program's orderings it needs. What is known of it stands at `audit_program`.
 #[derive(Drop)]
 pub struct Audit {
+    /// Whose outcomes were asked for.
+    pub world: World,
     /// What was found of the program as it is.
     pub known: Architecture,
     /// By addresses, and at one aq before rl.
     pub orderings: Vec<ImageOrdering>,
+    /// Those of them to which a hart may come; to the others none ever does.
+    pub met: Vec<ImageOrdering>,
     /// The words where they stand.
     pub own: Vec<Patch>,
     /// In the order in which they were made, none of them twice.
@@ -27,7 +34,7 @@ pub struct Audit {
     pub last: Vec<Patch>,
 }
 
-/// Searches the program as it is, and where that search is whole without each of its orderings, with weaker FENCEs in
+/// Searches the program as it is, and where that search is whole without each of its orderings to which a hart may come, with weaker FENCEs in
 /// place of those that are needed, and with ever fewer orderings: each is left out in turn, by addresses, and then each
 /// FENCE made weaker, where the outcomes stay the same. Meanwhile `watch` is told how far each search is. The error is
 /// that there was no memory.
@@ -37,35 +44,39 @@ pub fn audit_program<W: Watch>(
     watch: &W,
 ) -> Result<Audit, AllocError>
     requires { IsReady question }
-    ensures { IfOk result (IsAudit question.entry.image.now question.entry.config question.entry.addresses.now question.entry.window question.entry.limit) }
+    ensures { IfOk result (IsAudit question.entry.world question.entry.image.now question.entry.config question.entry.addresses.now question.entry.window question.entry.limit) }
 {
     let known = explore(alloc, question, &[], watch)?;
     let standard = Standard::AsItIs(&known.outcomes);
     let parts = parts_of(alloc, question, standard, is_whole(&known), watch)?;
-    Ok(audit_with(known, parts))
+    Ok(audit_with(question.world, known, parts))
 }
 
 /// What an audit has beside what was found of the program as it is.
 #[derive(Drop)]
 pub(crate) struct Parts {
     orderings: Vec<ImageOrdering>,
+    met: Vec<ImageOrdering>,
     own: Vec<Patch>,
     searches: Vec<Search>,
     last: Vec<Patch>,
 }
 
-pub(crate) fn audit_with(known: Architecture, parts: Parts) -> Audit
-    ensures { result ≡ audit_with known parts }
+pub(crate) fn audit_with(world: World, known: Architecture, parts: Parts) -> Audit
+    ensures { result ≡ audit_with world known parts }
 {
     let Parts {
         orderings,
+        met,
         own,
         searches,
         last,
     } = parts;
     Audit {
+        world,
         known,
         orderings,
+        met,
         own,
         searches,
         last,
@@ -81,15 +92,17 @@ pub(crate) fn parts_of<W: Watch>(
     watch: &W,
 ) -> Result<Parts, AllocError>
     requires { IsReady question }
-    ensures { IfOk result (ArePartsOf question.entry.image.now question.entry.config question.entry.addresses.now question.entry.window question.entry.limit (answer_of standard.entry) whole) }
+    ensures { IfOk result (ArePartsOf question.entry.world question.entry.image.now question.entry.config question.entry.addresses.now question.entry.window question.entry.limit (answer_of standard.entry) whole) }
 {
     let orderings = orderings_of(alloc, question.image)?;
     let own = own_patches(alloc, question.image, &orderings)?;
+    let met = met_orderings(alloc, question.image, &orderings)?;
     if !whole {
         let searches = Vec::new(alloc);
         let last = own.as_slice().to_vec(alloc)?;
         return Ok(Parts {
             orderings,
+            met,
             own,
             searches,
             last,
@@ -100,9 +113,10 @@ pub(crate) fn parts_of<W: Watch>(
         question,
         standard,
     };
-    let Reduced { searches, last } = asking.reduction(&orderings, &own, watch)?;
+    let Reduced { searches, last } = asking.reduction(&met, &own, watch)?;
     Ok(Parts {
         orderings,
+        met,
         own,
         searches,
         last,
@@ -176,4 +190,28 @@ impl Asking<'_> {
         let _answer = self.ask(searches, &tried, watch)?;
         Ok(())
     }
+}
+
+/// The outcome that shows that an ordering is needed, with the events or the trace that show it, where a search without
+/// the ordering told one: it isn't one of those that there are to be. The error is that there was no memory.
+pub fn shown_without<'s>(
+    alloc: Global,
+    audit: &'s Audit,
+    ordering: ImageOrdering,
+) -> Result<Option<&'s Outcome>, AllocError>
+    ensures { IfOk result (λ shown. option_copied shown ≡ shown_without audit.now ordering) }
+{
+    let without = patches_without(alloc, &audit.own, ordering)?;
+    Ok(match search_in(&audit.searches, &without) {
+        Some(search) => shown_by(search),
+        None => None,
+    })
+}
+
+/// The outcome that a search told that isn't one of those that there are to be.
+fn shown_by(search: &Search) -> Option<&Outcome>
+    ensures { option_copied result ≡ shown_by search.now }
+{
+    let place = refused_place(search.answer)?;
+    search.found.outcomes.get(place)
 }

@@ -4,7 +4,7 @@ ghost use Rattle.fence_audit.specs.Lacking as text;
 
 use crate::spelling::{
     answer_in, spell_address, spell_at, spell_bound, spell_counted, spell_minimal, spell_outcomes,
-    spell_symbol, spell_text, spell_word,
+    spell_searched, spell_symbol, spell_text, spell_word,
 };
 use crate::{Answer, Missing, Search, search_in};
 use architecture_outcomes::window_search::Reach;
@@ -219,7 +219,7 @@ fn is_needed(alloc: Global, missing: &Missing, own: Patch) -> Result<bool, Alloc
 fn spell_counts(into: &mut Vec<u8>, missing: &Missing) -> Result<(), AllocError>
     ensures { OnOk result (into.new.items ≡ into.old.items ++ text.counts_text missing.now) }
 {
-    into.extend_from_slice(b"searched: ")?;
+    spell_searched(into, missing.world)?;
     spell_counted(into, missing.own.len(), b" places, ")?;
     spell_counted(into, missing.searches.len() + 1, b" programs, ")?;
     spell_outcomes(into, missing.known.outcomes.len())?;

@@ -1,16 +1,18 @@
 //! The searches of an audit, none of which is made twice.
-ghost use Rattle.std.specs.Prelude.{◌≡◌, IfOk, OnOk, Some, option_map};
-ghost use Rattle.fence_audit.specs.Answers.{IsSearchOf};
+ghost use Rattle.std.specs.Prelude.{◌<◌, ◌≡◌, IfOk, OnOk, Some, option_map};
+ghost use Rattle.architecture_outcomes.specs.Words.{CanShowEach};
+ghost use Rattle.fence_audit.specs.Answers.{IsSearchIn, IsSearchOf};
 ghost use Rattle.fence_audit.specs.Searches.{ArePatchesOf, AreSearched, Grows, IsReady, IsSearchedBy, answer_in, is_of, search_in};
 ghost use Rattle.image_orderings.specs.Replaced.{patched};
 
 use crate::answers::{Answer, Standard, answer_of};
+use crate::machine::search_machine;
 use architecture_outcomes::{Architecture, explore_architecture};
 use elf_loader::Image;
 use exploration_text::explorer::Exploring;
 use image_orderings::{Patch, patched};
 use machine_types::Config;
-use state_search::Watch;
+use state_search::{Throughout, Watch};
 use std::alloc::{AllocError, Global};
 
 /// A search of an image with words replaced.
@@ -21,6 +23,15 @@ pub struct Search {
     pub found: Architecture,
     /// Beside the outcomes that it is to have.
     pub answer: Answer,
+}
+
+/// Whose outcomes are asked for.
+#[derive(Clone, Copy, Debug, PartialEq, Eq)]
+pub enum World {
+    /// All that the memory model allows.
+    Model,
+    /// Those to which this machine comes, whatever its schedule.
+    Machine,
 }
 
 /// What all searches of an audit have in common.
@@ -35,6 +46,7 @@ pub struct Question<'a> {
     pub window: u32,
     /// How many states each search may find.
     pub limit: u32,
+    pub world: World,
 }
 
 /// The search of the image with these words replaced, if it was made.
@@ -75,21 +87,64 @@ pub(crate) fn explore<W: Watch>(
 ) -> Result<Architecture, AllocError>
     requires ready { IsReady question }
     requires of_image { ArePatchesOf question patches.now }
-    ensures { IfOk result (IsSearchOf (patched question.entry.image.now patches.now) question.entry.config question.entry.addresses.now question.entry.window question.entry.limit) }
+    ensures { IfOk result (IsSearchIn question.entry.world (patched question.entry.image.now patches.now) question.entry.config question.entry.addresses.now question.entry.window question.entry.limit) }
 {
     let image = patched(alloc, question.image, patches)?;
     let exploring = Exploring {
         limit: question.limit,
         shortened: false,
     };
+    search_world(alloc, &image, question, exploring, watch)
+}
+
+/// What is found of an image.
+fn search_world<W: Watch>(
+    alloc: Global,
+    image: &Image,
+    question: Question<'_>,
+    exploring: Exploring,
+    watch: &W,
+) -> Result<Architecture, AllocError>
+    requires room { 0 < exploring.limit }
+    requires words { CanShowEach image.now question.addresses.now }
+    ensures { IfOk result (IsSearchIn question.entry.world image.now question.entry.config question.entry.addresses.now question.entry.window exploring.limit) }
+{
+    let Question {
+        config,
+        addresses,
+        window,
+        ..
+    } = question;
+    match question.world {
+        World::Model => search_model(alloc, image, config, addresses, window, exploring, watch),
+        World::Machine => search_machine(alloc, image, config, addresses, window, exploring, watch),
+    }
+}
+
+/// What the memory model allows.
+fn search_model<W: Watch>(
+    alloc: Global,
+    image: &Image,
+    config: Config,
+    addresses: &[u32],
+    window: u32,
+    exploring: Exploring,
+    watch: &W,
+) -> Result<Architecture, AllocError>
+    requires room { 0 < exploring.limit }
+    requires words { CanShowEach image.now addresses.now }
+    ensures { IfOk result (IsSearchOf image.now config addresses.now window exploring.limit) }
+{
     explore_architecture(
         alloc,
-        &image,
-        question.config,
-        question.addresses,
-        question.window,
+        image,
+        config,
+        addresses,
+        window,
         exploring,
         watch,
+        &Throughout,
+        &Throughout,
     )
 }
 

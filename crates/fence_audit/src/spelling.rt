@@ -10,7 +10,7 @@ ghost use Rattle.image_orderings.specs.Programs.{is_kept};
 ghost use Rattle.exploration_text.specs.Naming.{place_before};
 ghost use Rattle.text_fields.specs.Fields.{word as hexadecimal};
 
-use crate::{Answer, Audit, Search, is_whole, search_in};
+use crate::{Answer, Audit, Search, World, is_whole, search_in};
 use architecture_outcomes::Outcome;
 use architecture_outcomes::window_search::Reach;
 use assembly::spell_assembly;
@@ -88,11 +88,22 @@ pub(crate) fn spell_counted(
     Ok(())
 }
 
+/// Whose outcomes were asked for.
+pub(crate) fn spell_searched(into: &mut Vec<u8>, world: World) -> Result<(), AllocError>
+    ensures { OnOk result (into.new.items ≡ into.old.items ++ text.searched_text world) }
+{
+    match world {
+        World::Model => into.extend_from_slice(b"searched: ")?,
+        World::Machine => into.extend_from_slice(b"searched on this machine: ")?,
+    }
+    Ok(())
+}
+
 fn spell_counts(into: &mut Vec<u8>, audit: &Audit) -> Result<(), AllocError>
     ensures { OnOk result (into.new.items ≡ into.old.items ++ text.counts_text audit.now) }
 {
-    into.extend_from_slice(b"searched: ")?;
-    spell_counted(into, audit.orderings.len(), b" orderings, ")?;
+    spell_searched(into, audit.world)?;
+    spell_counted(into, audit.met.len(), b" orderings, ")?;
     spell_counted(into, audit.searches.len() + 1, b" programs, ")?;
     spell_outcomes(into, audit.known.outcomes.len())?;
     Ok(())
@@ -140,11 +151,13 @@ pub(crate) fn spell_bound(into: &mut Vec<u8>, reach: Reach, window: u32) -> Resu
         Reach::Whole => spell_text(into, b", this machine's states"),
         Reach::Unjudged => spell_text(into, b", runs of over 4096 operations"),
         Reach::Unclosed => spell_text(into, b", what a last pass over the states found"),
-        Reach::WindowMet => spell_width(into, window),
-        Reach::GuessMet => spell_text(into, b", values of loads or ways of fetching on"),
-        Reach::CallMet => spell_text(into, b", calls by a loaded number"),
-        Reach::RowMet => spell_text(into, b", rows over 10000 instructions without an access"),
+        Reach::WindowMet(_) => spell_width(into, window),
+        Reach::ValuesMet(_) => spell_text(into, b", values of a load over 256"),
+        Reach::WaysMet(_) => spell_text(into, b", ways of fetching on over 1000"),
+        Reach::CallMet(_) => spell_text(into, b", calls by a loaded number"),
+        Reach::RowMet(_) => spell_text(into, b", rows over 10000 instructions without an access"),
         Reach::LimitMet => spell_text(into, b", limit of states"),
+        Reach::Ended(_) => spell_text(into, b", ended"),
         Reach::OutOfMemory => spell_text(into, b", out of memory"),
     }
 }
@@ -157,7 +170,7 @@ pub(crate) fn spell_text(into: &mut Vec<u8>, what: &[u8]) -> Result<(), AllocErr
 }
 
 fn spell_width(into: &mut Vec<u8>, window: u32) -> Result<(), AllocError>
-    ensures { OnOk result (into.new.items ≡ into.old.items ++ text.bound_text reach.WindowMet window) }
+    ensures { OnOk result (into.new.items ≡ into.old.items ++ text.width_text window) }
 {
     into.extend_from_slice(b", windows over ")?;
     spell_number(into, window as u64)?;
@@ -213,9 +226,30 @@ fn spell_ordering(
 {
     spell_head(into, symbols, previous, audit, ordering.address)?;
     spell_part(into, ordering.part)?;
+    spell_if_met(alloc, into, names, audit, ordering)
+}
+
+/// What searches told, of one to which a hart may come.
+fn spell_if_met(
+    alloc: Global,
+    into: &mut Vec<u8>,
+    names: &[WordName<'_>],
+    audit: &Audit,
+    ordering: ImageOrdering,
+) -> Result<(), AllocError>
+    ensures { OnOk result (into.new.items ≡ into.old.items ++ text.met_text (text.is_met audit.now.met.items ordering.address) names.now audit.now ordering) }
+{
+    if !is_met(&audit.met, ordering.address) {
+        return spell_text(into, b"never met\n");
+    }
     spell_without(alloc, into, names, audit, ordering)?;
-    spell_weaker(alloc, into, audit, ordering)?;
-    Ok(())
+    spell_weaker(alloc, into, audit, ordering)
+}
+
+fn is_met(met: &[ImageOrdering], address: u32) -> bool
+    ensures { result ≡ text.is_met met.now address }
+{
+    met.iter().any(|each| each.address == address)
 }
 
 /// What a search without it told.
@@ -467,7 +501,7 @@ fn spell_last(alloc: Global, into: &mut Vec<u8>, audit: &Audit) -> Result<(), Al
 {
     into.extend_from_slice(b"enough together")?;
     spell_minimal(into, is_minimal(alloc, audit)?)?;
-    spell_some(into, &audit.last, &audit.orderings)?;
+    spell_some(into, &audit.last, &audit.met)?;
     into.extend_from_slice(b"\n")?;
     Ok(())
 }
@@ -506,7 +540,7 @@ fn has_kept(last: &[Patch], orderings: &[ImageOrdering]) -> bool
 fn is_minimal(alloc: Global, audit: &Audit) -> Result<bool, AllocError>
     ensures { IfOk result (λ minimal. minimal ≡ text.is_minimal audit.now) }
 {
-    let mut rest = audit.orderings.as_slice();
+    let mut rest = audit.met.as_slice();
     while let [first, tail @ ..] = rest {
         if !is_needed_in(alloc, audit, *first)? {
             return Ok(false);

@@ -1,104 +1,237 @@
 -- Which faults the command hands up, and what its result says.
-use Rattle.std.proofs.Common.{◌≡◌, ◌∙◌, ◌⊎◌, ℕ, Bool, Err, IfOk, List, None, Ok, Option, Result, Some, [], ap, inl, inr, subst, sym}
+use Rattle.std.proofs.Common.{◌≡◌, ◌∙◌, ◌⊎◌, ℕ, Bool, IfOk, IfSome, List, None, Option, Result, Some, ap, refl, inl, inr, subst, sym}
 use Rattle.std.specs.declared.alloc.AllocError.{AllocError}
-use Rattle.command_files.proofs.Left.{spoiled}
 use Rattle.command_files.specs.Contents.{Contents}
-use Rattle.command_files.specs.Faults.{IsImageFault, IsReadFault, LeavesAtFault, Name}
+use Rattle.command_files.specs.Faults.{IsImageFault, IsReadFault, Name}
 use Rattle.command_files.specs.Sizes.{IsInside, config_named}
 use Rattle.command_files.specs.declared.fault.Fault.{Fault}
 use Rattle.command_files.specs.declared.fault.Fault.TheVariants.{BadAddress, BadEvent, BytesAfterTrace, CannotMake, CannotRead, CannotShow, CannotWrite, Check, Configuration, Event, Image, Mismatch, NoThread, NothingHappens, OtherImage, OutOfMemory, Text, TooManyRows}
-use Rattle.command_settings.specs.declared.wanted.Fences.{Fences}
+use Rattle.command_settings.specs.declared.wanted.Audit.{Audit as Wanted}
 use Rattle.elf_loader.specs.Image.{Initial}
 use Rattle.elf_symbols.specs.Named.{Named}
 use Rattle.command_files.specs.Allowing.{IsAllowFile, IsNamedBy}
+use Rattle.command_files.specs.declared.allowing.Judgement.{Judgement}
+use Rattle.command_files.specs.declared.fault.Unshown.{Unshown}
+use Rattle.explore_command.specs.Targets.{AreAddressesOf, ComesBehindShown, IsUnplaced, IsUnshown, names_of}
+use Rattle.explore_command.specs.WordName.{WordName}
+use Rattle.command_settings.specs.declared.wanted.Fences.{Fences}
+use Rattle.explore_command.proofs.Explored.{all_of}
+use Rattle.explore_command.proofs.Faults.{output_left}
+use Rattle.explore_command.specs.Exploring.{IsFolderFault, LeavesPart}
+use Rattle.explore_command.specs.Keeping.{SparesOthers}
+use Rattle.fences_command.specs.Keeping.{IsProgramFile, IsProgramKept, IsTarget, IsTargetFault, IsUnread}
+use Rattle.fences_command.specs.declared.keeping.Target.{Target}
 use Rattle.fence_audit.specs.Adding.{IsAllowance}
+use Rattle.std.specs.Io.KnownBytes.{Appends}
 use Rattle.fence_audit.specs.Answers.{answer_within}
+use Rattle.fence_audit.specs.declared.searches.World.{World}
 use Rattle.fence_audit.specs.declared.allowing.Allowance.{Allowance}
-use Rattle.fences_command.specs.Fencing.{IsAuditCutOff, IsFencesFault, IsOfFile, IsSought, told_text}
+use Rattle.fences_command.specs.Fencing.{AuditHas, IsAuditTold, IsFencesFault, IsOfFile, IsSought, judgement_of, told_text, world_of}
 use Rattle.machine_types.specs.declared.config.Config.{Config}
 use Rattle.script_commands.specs.Named.{HoldsNamedImage}
 use Rattle.text_fields.specs.Writing.{Begins}
 
-pub of_image : (held : Contents) (fences : Fences) (fault : Fault) → IsImageFault held fences.raw fences.image fences.machine.memory fault → IsFencesFault held fences fault
-of_image held fences (CannotRead file) is = inl is
-of_image held fences OutOfMemory is = tt
-of_image held fences (Image file error) is = is
-of_image held fences (Text file error) is = absurd is
-of_image held fences (CannotMake file) is = absurd is
-of_image held fences CannotWrite is = tt
-of_image held fences (Event file line error) is = absurd is
-of_image held fences (BytesAfterTrace file) is = absurd is
-of_image held fences (NothingHappens file line outcome) is = absurd is
-of_image held fences (Check file error) is = absurd is
-of_image held fences (OtherImage file address) is = absurd is
-of_image held fences (TooManyRows file) is = absurd is
-of_image held fences (BadAddress word) is = absurd is
-of_image held fences (CannotShow word cause) is = absurd is
-of_image held fences NoThread is = absurd is
-of_image held fences Mismatch is = absurd is
-of_image held fences BadEvent is = absurd is
-of_image held fences Configuration is = absurd is
+pub of_image : (held : Contents) (wanted : Wanted) (fault : Fault) → IsImageFault held wanted.fences.raw wanted.fences.image wanted.fences.machine.memory fault → IsFencesFault held wanted fault
+of_image held wanted (CannotRead file) is = inl is
+of_image held wanted OutOfMemory is = tt
+of_image held wanted (Image file error) is = is
+of_image held wanted (Text file error) is = absurd is
+of_image held wanted (CannotMake file) is = absurd is
+of_image held wanted CannotWrite is = tt
+of_image held wanted (Event file line error) is = absurd is
+of_image held wanted (BytesAfterTrace file) is = absurd is
+of_image held wanted (NothingHappens file line outcome) is = absurd is
+of_image held wanted (Check file error) is = absurd is
+of_image held wanted (OtherImage file address) is = absurd is
+of_image held wanted (TooManyRows file) is = absurd is
+of_image held wanted (BadAddress word) is = absurd is
+of_image held wanted (CannotShow word cause) is = absurd is
+of_image held wanted NoThread is = absurd is
+of_image held wanted Mismatch is = absurd is
+of_image held wanted BadEvent is = absurd is
+of_image held wanted Configuration is = absurd is
+
+-- a file that is read can't be, or memory ran out
+read_is : (name : Name) (fault : Fault) → IsReadFault name fault → (fault ≡ CannotRead name) ⊎ (fault ≡ OutOfMemory)
+read_is name (CannotRead file) is = inl (ap CannotRead is)
+read_is name OutOfMemory is = inr refl
+read_is name CannotWrite is = absurd is
+read_is name (Image file error) is = absurd is
+read_is name (Text file error) is = absurd is
+read_is name (CannotMake file) is = absurd is
+read_is name (Event file line error) is = absurd is
+read_is name (BytesAfterTrace file) is = absurd is
+read_is name (NothingHappens file line outcome) is = absurd is
+read_is name (Check file error) is = absurd is
+read_is name (OtherImage file address) is = absurd is
+read_is name (TooManyRows file) is = absurd is
+read_is name (BadAddress word) is = absurd is
+read_is name (CannotShow word cause) is = absurd is
+read_is name NoThread is = absurd is
+read_is name Mismatch is = absurd is
+read_is name BadEvent is = absurd is
+read_is name Configuration is = absurd is
+
+of_read : (held : Contents) (wanted : Wanted) (fault : Fault) → IsReadFault wanted.fences.image fault → IsFencesFault held wanted fault
+of_read held wanted fault is = elim (read_is wanted.fences.image fault is) [
+  | inl at ↦ subst (IsFencesFault held wanted) (sym at) (inl refl)
+  | inr at ↦ subst (IsFencesFault held wanted) (sym at) tt
+]
 
 -- of the file that says what is allowed
-of_named : (held : Contents) (fences : Fences) (name : Name) (fault : Fault) → fences.allow ≡ Some name → IsReadFault name fault → IsFencesFault held fences fault
-of_named held fences name (CannotRead file) at is = inr (at ∙ ap Some (sym is))
-of_named held fences name OutOfMemory at is = tt
-of_named held fences name CannotWrite at is = tt
-of_named held fences name (Image file error) at is = absurd is
-of_named held fences name (Text file error) at is = absurd is
-of_named held fences name (CannotMake file) at is = absurd is
-of_named held fences name (Event file line error) at is = absurd is
-of_named held fences name (BytesAfterTrace file) at is = absurd is
-of_named held fences name (NothingHappens file line outcome) at is = absurd is
-of_named held fences name (Check file error) at is = absurd is
-of_named held fences name (OtherImage file address) at is = absurd is
-of_named held fences name (TooManyRows file) at is = absurd is
-of_named held fences name (BadAddress word) at is = absurd is
-of_named held fences name (CannotShow word cause) at is = absurd is
-of_named held fences name NoThread at is = absurd is
-of_named held fences name Mismatch at is = absurd is
-of_named held fences name BadEvent at is = absurd is
-of_named held fences name Configuration at is = absurd is
+of_named : (held : Contents) (wanted : Wanted) (name : Name) (fault : Fault) → wanted.fences.allow ≡ Some name → IsReadFault name fault → IsFencesFault held wanted fault
+of_named held wanted name fault at is = elim (read_is name fault is) [
+  | inl read ↦ subst (IsFencesFault held wanted) (sym read) (inr at)
+  | inr memory ↦ subst (IsFencesFault held wanted) (sym memory) tt
+]
 
-pub of_allow : (held : Contents) (fences : Fences) (allow : Option Name) (fault : Fault) → fences.allow ≡ allow → IsNamedBy allow IsReadFault fault → IsFencesFault held fences fault
-of_allow held fences None fault at is = absurd is
-of_allow held fences (Some name) fault at is = of_named held fences name fault at is
+pub of_allow : (held : Contents) (wanted : Wanted) (allow : Option Name) (fault : Fault) → wanted.fences.allow ≡ allow → IsNamedBy allow IsReadFault fault → IsFencesFault held wanted fault
+of_allow held wanted None fault at is = absurd is
+of_allow held wanted (Some name) fault at is = of_named held wanted name fault at is
 
 pub allow_is_not_write : (allow : Option Name) (fault : Fault) → IsNamedBy allow IsReadFault fault → fault ≡ CannotWrite → ⊥
 allow_is_not_write None fault is at = is
 allow_is_not_write (Some name) fault is at = subst (IsReadFault name) at is
 
+image_before : (held before : Contents) (wanted : Wanted) (image : Initial) (symbols : List Named) → before ≡ held
+    → HoldsNamedImage before wanted.fences.raw wanted.fences.image.now wanted.fences.machine.memory image symbols → HoldsNamedImage held wanted.fences.raw wanted.fences.image.now wanted.fences.machine.memory image symbols
+image_before held before wanted image symbols same file = subst (λ (files : Contents). HoldsNamedImage files wanted.fences.raw wanted.fences.image.now wanted.fences.machine.memory image symbols) same file
+
+-- a word that can't be shown is told
+unplaced_is : (image : Initial) (symbols : List Named) (word : Name) (fault : Fault) → IsUnplaced image symbols word fault → (cause : Unshown) × (fault ≡ CannotShow word cause)
+unplaced_is image symbols word fault (inl (none, is)) = (_, is)
+unplaced_is image symbols word fault (inr (place, at, never, is)) = (_, is)
+
+pub of_words : (held before : Contents) (wanted : Wanted) (image : Initial) (symbols : List Named) (words : List Name) (fault : Fault) → words ≡ wanted.words.items → before ≡ held
+    → HoldsNamedImage before wanted.fences.raw wanted.fences.image.now wanted.fences.machine.memory image symbols → IsUnshown image symbols words fault → IsFencesFault held wanted fault
+of_words held before wanted image symbols words fault all same file (inl (word, first, unplaced)) =
+    let is = unplaced_is image symbols word fault unplaced in
+    subst (IsFencesFault held wanted) (sym is.1)
+    (record { image = image; symbols = symbols; image_file = image_before held before wanted image symbols same file; word = word; first = subst (λ ws. ComesBehindShown image symbols ws word) all first; unplaced = subst (IsUnplaced image symbols word) is.1 unplaced })
+of_words held before wanted image symbols words fault all same file (inr memory) = subst (IsFencesFault held wanted) (sym memory) tt
+
+pub words_are_not_write : (image : Initial) (symbols : List Named) (words : List Name) (fault : Fault) → IsUnshown image symbols words fault → fault ≡ CannotWrite → ⊥
+words_are_not_write image symbols words fault (inl (word, first, unplaced)) at =
+    let is = unplaced_is image symbols word fault unplaced in
+    let bad : CannotShow word is.0 ≡ CannotWrite = sym is.1 ∙ at in cc
+words_are_not_write image symbols words fault (inr memory) at =
+    let bad : OutOfMemory ≡ CannotWrite = sym memory ∙ at in cc
+
+-- ---- the file for the program
+
+unread_at : (held : Contents) (fences : Fences) (target : Option Target) → IsTarget held fences target → IfSome fences.write (λ name. IsUnread fences name.now)
+unread_at held fences None aimed = subst (λ (o : Option Name). IfSome o (λ name. IsUnread fences name.now)) (sym aimed) tt
+unread_at held fences (Some target) aimed = subst (λ (o : Option Name). IfSome o (λ name. IsUnread fences name.now)) (sym aimed.0) aimed.2
+
+-- it can't be made, or memory ran out
+unkept : (write : Option Name) (fault : Fault) → IsNamedBy write IsFolderFault fault → ((name : Name) × (write ≡ Some name) × (fault ≡ CannotMake name)) ⊎ (fault ≡ OutOfMemory)
+unkept None fault is = absurd is
+unkept (Some name) fault is = elim is [
+  | inl at ↦ inl (name, refl, at)
+  | inr at ↦ inr at
+]
+
+pub of_kept : (held : Contents) (wanted : Wanted) (fault : Fault) → IsNamedBy wanted.fences.write IsFolderFault fault → IsFencesFault held wanted fault
+of_kept held wanted fault is = elim (unkept wanted.fences.write fault is) [
+  | inl at ↦ subst (IsFencesFault held wanted) (sym at.2) at.1
+  | inr at ↦ subst (IsFencesFault held wanted) (sym at) tt
+]
+
+module _ (held : Contents) (wanted : Wanted) (fault : Fault) where
+  target_told : (write : Option Name) → wanted.fences.write ≡ write → IsNamedBy write (λ name f. (f ≡ CannotMake name) ⊎ ((f ≡ OutOfMemory) ⊎ IsReadFault wanted.fences.image f)) fault → IsFencesFault held wanted fault
+  target_told None at is = absurd is
+  target_told (Some name) at (inl made) = subst (IsFencesFault held wanted) (sym made) at
+  target_told (Some name) at (inr (inl memory)) = subst (IsFencesFault held wanted) (sym memory) tt
+  target_told (Some name) at (inr (inr read)) = of_read held wanted fault read
+
+  pub of_target : IsTargetFault wanted.fences fault → IsFencesFault held wanted fault
+  of_target is = target_told wanted.fences.write refl is
+
+  target_unprinted : (write : Option Name) → IsNamedBy write (λ name f. (f ≡ CannotMake name) ⊎ ((f ≡ OutOfMemory) ⊎ IsReadFault wanted.fences.image f)) fault → fault ≡ CannotWrite → ⊥
+  target_unprinted None is at = is
+  target_unprinted (Some name) (inl made) at =
+      let bad : CannotMake name ≡ CannotWrite = sym made ∙ at in cc
+  target_unprinted (Some name) (inr (inl memory)) at =
+      let bad : OutOfMemory ≡ CannotWrite = sym memory ∙ at in cc
+  target_unprinted (Some name) (inr (inr read)) at = subst (IsReadFault wanted.fences.image) at read
+
+  pub target_is_not_write : IsTargetFault wanted.fences fault → fault ≡ CannotWrite → ⊥
+  target_is_not_write is at = target_unprinted wanted.fences.write is at
+
+-- before the text nothing was printed
+pub unbegun : (fault : Fault) (old new : Option (List ℕ)) (Has : (List ℕ → Type 0) → Type 0) → (fault ≡ CannotWrite → ⊥) → new ≡ old → LeavesPart fault old new Has
+unbegun (CannotRead file) old new Has other same = same
+unbegun (CannotMake file) old new Has other same = inl same
+unbegun CannotWrite old new Has other same = absurd (other refl)
+unbegun OutOfMemory old new Has other same = inl same
+unbegun (Image file error) old new Has other same = same
+unbegun (Text file error) old new Has other same = same
+unbegun (Event file line error) old new Has other same = same
+unbegun (BytesAfterTrace file) old new Has other same = same
+unbegun (NothingHappens file line outcome) old new Has other same = same
+unbegun (Check file error) old new Has other same = same
+unbegun (OtherImage file address) old new Has other same = same
+unbegun (TooManyRows file) old new Has other same = same
+unbegun (BadAddress word) old new Has other same = same
+unbegun (CannotShow word cause) old new Has other same = same
+unbegun NoThread old new Has other same = same
+unbegun Mismatch old new Has other same = same
+unbegun BadEvent old new Has other same = same
+unbegun Configuration old new Has other same = same
+
 -- what is sought of the image in the file is the file's
-pub of_file : (held before : Contents) (fences : Fences) (config : Config) (image : Initial) (symbols : List Named) (text : Option (List ℕ)) (allowance : Allowance) (inside : IsInside fences.machine)
-    → config ≡ config_named fences.machine inside → before ≡ held → IsAllowFile held fences.allow text
-    → HoldsNamedImage before fences.raw fences.image.now fences.machine.memory image symbols → IsSought image config fences.window fences.states text allowance → IsOfFile held fences symbols allowance
-of_file held before fences config image symbols text allowance inside is same allowed file so =
+pub of_file : (held before : Contents) (wanted : Wanted) (config : Config) (image : Initial) (symbols : List Named) (addresses : List ℕ) (names : List WordName) (text : Option (List ℕ)) (allowance : Allowance) (inside : IsInside wanted.fences.machine)
+    → config ≡ config_named wanted.fences.machine inside → before ≡ held → IsAllowFile held wanted.fences.allow text → AreAddressesOf symbols wanted.words.items addresses → names ≡ names_of wanted.words.items
+    → HoldsNamedImage before wanted.fences.raw wanted.fences.image.now wanted.fences.machine.memory image symbols → IsSought (world_of wanted.fences.subject) image config addresses wanted.fences.window wanted.fences.states names text allowance → IsOfFile held wanted symbols allowance image
+of_file held before wanted config image symbols addresses names text allowance inside is same allowed placed named file so =
     record {
-      image = image;
-      image_file = subst (λ (files : Contents). HoldsNamedImage files fences.raw fences.image.now fences.machine.memory image symbols) same file;
+      image_file = image_before held before wanted image symbols same file;
+      addresses = addresses;
+      placed = placed;
       inside = inside;
       text = text;
       allow_file = allowed;
-      sought = subst (λ c. IsSought image c fences.window fences.states text allowance) is so;
+      sought = subst (λ c. IsSought (world_of wanted.fences.subject) image c addresses wanted.fences.window wanted.fences.states (names_of wanted.words.items) text allowance) is (subst (λ n. IsSought (world_of wanted.fences.subject) image config addresses wanted.fences.window wanted.fences.states n text allowance) named so);
     }
 
 -- what is printed of it
-module _ (held : Contents) (fences : Fences) (symbols : List Named) (allowance : Allowance) (file : IsOfFile held fences symbols allowance) (old new : Option (List ℕ)) where
-  pub part_told : (fault : Fault) → (fault ≡ CannotWrite) ⊎ (fault ≡ OutOfMemory) → Begins old new (told_text symbols allowance)
-      → LeavesAtFault fault old new (IsAuditCutOff held fences old new)
-  part_told fault is so = spoiled old new _ fault is (record { symbols = symbols; allowance = allowance; of_file = file; begun = so })
+module _ (held : Contents) (wanted : Wanted) (names : List WordName) (named : names ≡ names_of wanted.words.items) (symbols : List Named) (allowance : Allowance) (image : Initial) (file : IsOfFile held wanted symbols allowance image) (old new : Option (List ℕ)) where
+  pub has : (P : List ℕ → Type 0) → P (told_text names symbols allowance) → AuditHas held wanted P
+  has P so = record { symbols = symbols; allowance = allowance; image = image; of_file = file; of_text = subst (λ n. P (told_text n symbols allowance)) named so }
 
-pub output_told : (held : Contents) (fences : Fences) (fault : Fault) → (fault ≡ CannotWrite) ⊎ (fault ≡ OutOfMemory) → IsFencesFault held fences fault
-output_told held fences fault is = elim is [
-  | inl at ↦ subst (IsFencesFault held fences) (sym at) tt
-  | inr at ↦ subst (IsFencesFault held fences) (sym at) tt
+  pub part_told : (fault : Fault) → (fault ≡ CannotWrite) ⊎ (fault ≡ OutOfMemory) → Begins old new (told_text names symbols allowance) → LeavesPart fault old new (AuditHas held wanted)
+  part_told fault is so = output_left fault old new (AuditHas held wanted) is (has (Begins old new) so)
+
+  -- the file for the program comes behind it
+  pub all_told : (fault : Fault) → IsNamedBy wanted.fences.write IsFolderFault fault → Appends old new (told_text names symbols allowance) → LeavesPart fault old new (AuditHas held wanted)
+  all_told fault is so = elim (unkept wanted.fences.write fault is) [
+    | inl at ↦ subst (λ f. LeavesPart f old new (AuditHas held wanted)) (sym at.2) (inr (has (Appends old new) so))
+    | inr at ↦ subst (λ f. LeavesPart f old new (AuditHas held wanted)) (sym at) (inr (has (Begins old new) (all_of old new (told_text names symbols allowance) so)))
+  ]
+
+  pub whole_told : (left : Contents) (judgement : Judgement) (target : Option Target) → Appends old new (told_text names symbols allowance) → judgement ≡ judgement_of allowance → IsTarget held wanted.fences target
+      → IsProgramKept held left wanted.fences image allowance wanted.fences.write → SparesOthers (IsProgramFile wanted.fences.write) held left → IsAuditTold held left wanted judgement old new
+  whole_told left judgement target so is aimed kept spared = record {
+    symbols = symbols;
+    allowance = allowance;
+    image = image;
+    of_file = file;
+    printed = subst (λ n. Appends old new (told_text n symbols allowance)) named so;
+    judged = is;
+    unread = unread_at held wanted.fences target aimed;
+    kept = kept;
+    spared = spared;
+  }
+
+pub output_told : (held : Contents) (wanted : Wanted) (fault : Fault) → (fault ≡ CannotWrite) ⊎ (fault ≡ OutOfMemory) → IsFencesFault held wanted fault
+output_told held wanted fault is = elim is [
+  | inl at ↦ subst (IsFencesFault held wanted) (sym at) tt
+  | inr at ↦ subst (IsFencesFault held wanted) (sym at) tt
 ]
 
--- what is sought of no words of memory
-pub of_allowed : (image : Initial) (config : Config) (addresses : List ℕ) (window limit : ℕ) (allows other : List ℕ → Bool) (r : Result Allowance AllocError) → addresses ≡ []
-    → ((line : List ℕ) → allows line ≡ other line) → IfOk r (IsAllowance image config addresses window limit (answer_within allows [])) → IfOk r (IsAllowance image config [] window limit (answer_within other []))
-of_allowed image config addresses window limit allows other (Err error) none same so = tt
-of_allowed image config addresses window limit allows other (Ok allowance) none same so =
+-- what a text allows is the same as it is read
+pub of_allowed : (world : World) (image : Initial) (config : Config) (addresses : List ℕ) (window limit : ℕ) (names : List WordName) (allows other : List ℕ → Bool) (r : Result Allowance AllocError)
+    → ((line : List ℕ) → allows line ≡ other line) → IfOk r (IsAllowance world image config addresses window limit (answer_within allows names)) → IfOk r (IsAllowance world image config addresses window limit (answer_within other names))
+of_allowed world image config addresses window limit names allows other r same so =
     let all : allows ≡ other = λ i line. same line i in
-    subst (λ (f : List ℕ → Bool). IsAllowance image config [] window limit (answer_within f []) allowance) all
-    (subst (λ (places : List ℕ). IsAllowance image config places window limit (answer_within allows []) allowance) none so)
+    subst (λ (f : List ℕ → Bool). IfOk r (IsAllowance world image config addresses window limit (answer_within f names))) all so

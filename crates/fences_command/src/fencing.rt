@@ -1,19 +1,29 @@
 //! `rvtl fences`: which of a program's orderings it needs, or which it lacks, is sought and told.
 
-ghost use Rattle.std.specs.Prelude.{◌≡◌, ◌≢◌, ◌⊎◌, ◌<◌, [], Err, IfErr, IfOk, None, OnErr, OnOk, Some, option_map};
+ghost use Rattle.std.specs.Prelude.{◌≡◌, ◌≢◌, ◌⊎◌, ◌<◌, Err, IfErr, IfOk, List, None, OnErr, OnOk, Some, option_map};
 ghost use Rattle.std.specs.Io.KnownBytes.{Appends};
-ghost use Rattle.command_files.specs.Faults.{LeavesAtFault};
+ghost use Rattle.explore_command.specs.Exploring.{ComesBeforeScripts, LeavesPart};
+ghost use Rattle.explore_command.specs.Keeping.{SparesOthers};
 ghost use Rattle.command_files.specs.Sizes.{IsOutside};
+ghost use Rattle.explore_command.specs.WordName.{WordName};
 ghost use Rattle.fence_audit.specs.Searches.{IsReady};
-ghost use Rattle.fences_command.specs.Fencing.{IsAuditCutOff, IsAuditTold, IsFencesFault, IsOfFile, IsSought, judgement_of, told_text};
+ghost use Rattle.fence_audit.specs.Words.{CanShowEach};
+ghost use Rattle.explore_command.specs.Targets.{names_of};
+ghost use Rattle.fences_command.specs.Fencing.{AuditHas, IsAuditTold, IsFencesFault, IsOfFile, IsSought, judgement_of, told_text, world_of};
+ghost use Rattle.fences_command.specs.Keeping.{IsProgramFile, IsTarget};
 ghost use Rattle.text_fields.specs.Writing.{Begins};
 
+use crate::keeping::{Target, keep_program, target_of};
 use command_files::{Fault, Files, Judgement, allow_file, named_config, out_of_limits};
-use command_settings::Fences;
+use command_settings::{Audit, Fences, Subject};
 use elf_loader::Image;
 use elf_symbols::Symbols;
+use explore_command::exploration_text::WordName;
+use explore_command::{Targets, targets_of};
 use fence_audit::allowed_outcomes::Allowed;
-use fence_audit::{Allowance, Question, audit_allowed, audit_program, lacking_text, text_of};
+use fence_audit::{
+    Allowance, Question, World, audit_allowed, audit_program, lacking_text, text_of,
+};
 use machine_types::Config;
 use progress_line::{Progress, Stage};
 use script_commands::named_image_in;
@@ -34,26 +44,34 @@ impl<P: Progress> Watch for Telling<'_, P> {
     }
 }
 
-/// Judges the machine's size, reads what is allowed, if a file is named for it, then the image, finds out which of its
-/// orderings it needs, or which it lacks, and prints that on `out`. While it searches, `progress` is told how far it is.
+/// Judges the machine's size, reads what is allowed, if a file is named for it, then the image, looks for the words of
+/// memory that are to be shown, and whether the file can be made that the program is to be written into, finds out which
+/// of its orderings it needs, or which it lacks, prints that on `out`, and writes the program with those that are enough. While it searches, `progress` is told how far it is.
 pub fn fences_files<'a, F: Files, O: Write, P: Progress>(
     alloc: Global,
     files: &mut F,
-    wanted: Fences<'a>,
+    wanted: &Audit<'a>,
     out: &mut O,
     progress: &P,
 ) -> Result<Judgement, Fault<'a>>
-    requires room { 0 < wanted.states }
-    ensures audited { IfOk result (λ judgement. IsAuditTold (F.held files.old) wanted.entry judgement (O.contents out.old) (O.contents out.new)) }
-    ensures unfinished { IfErr result (λ fault. LeavesAtFault fault (O.contents out.old) (O.contents out.new)
-        (IsAuditCutOff (F.held files.old) wanted.entry (O.contents out.old) (O.contents out.new))) }
-    ensures outside { IsOutside wanted.entry.machine → result ≡ Err Fault.Configuration }
-    ensures told { IfErr result (IsFencesFault (F.held files.old) wanted.entry) }
-    ensures spared { F.held files.new ≡ F.held files.old }
+    requires room { 0 < wanted.now.fences.states }
+    ensures audited { IfOk result (λ judgement. IsAuditTold (F.held files.old) (F.held files.new) wanted.now judgement (O.contents out.old) (O.contents out.new)) }
+    ensures unfinished { IfErr result (λ fault. LeavesPart fault (O.contents out.old) (O.contents out.new) (AuditHas (F.held files.old) wanted.now)) }
+    ensures outside { IsOutside wanted.now.fences.machine → result ≡ Err Fault.Configuration }
+    ensures told { IfErr result (IsFencesFault (F.held files.old) wanted.now) }
+    ensures spared { SparesOthers (IsProgramFile wanted.now.fences.write) (F.held files.old) (F.held files.new) }
+    ensures untouched { IfErr result (λ fault. ComesBeforeScripts fault → F.held files.new ≡ F.held files.old) }
 {
     let told = audit_in(alloc, files, wanted, progress)?;
     print(alloc, &told, out)?;
-    Ok(judgement_of(&told.allowance))
+    let NamedAudit {
+        allowance,
+        image,
+        target,
+        ..
+    } = told;
+    keep_program(alloc, files, wanted.fences, &target, &image, &allowance)?;
+    Ok(judgement_of(&allowance))
 }
 
 /// It is allowed unless an outcome of the program as it is isn't.
@@ -66,38 +84,62 @@ fn judgement_of(allowance: &Allowance) -> Judgement
     }
 }
 
-/// What an image needs or lacks, and the symbols of its file.
+/// What an image needs or lacks, what lines call the words of memory, the symbols of its file, and where it is to be
+/// written.
 #[derive(Drop)]
-struct NamedAudit {
+struct NamedAudit<'a> {
     allowance: Allowance,
+    names: Vec<WordName<'a>>,
     symbols: Symbols,
+    image: Image,
+    target: Option<Target<'a>>,
 }
 
 /// What the image in the file needs or lacks.
 fn audit_in<'a, F: Files, P: Progress>(
     alloc: Global,
     files: &mut F,
-    wanted: Fences<'a>,
+    wanted: &Audit<'a>,
     progress: &P,
-) -> Result<NamedAudit, Fault<'a>>
-    requires room { 0 < wanted.states }
-    ensures of_file { IfOk result (λ told. IsOfFile (F.held files.old) wanted.entry told.symbols told.allowance) }
-    ensures outside { IsOutside wanted.entry.machine → result ≡ Err Fault.Configuration }
-    ensures told { IfErr result (IsFencesFault (F.held files.old) wanted.entry) }
+) -> Result<NamedAudit<'a>, Fault<'a>>
+    requires room { 0 < wanted.now.fences.states }
+    ensures of_file { IfOk result (λ told. IsOfFile (F.held files.old) wanted.now told.symbols told.allowance told.image) }
+    ensures target { IfOk result (λ told. IsTarget (F.held files.old) wanted.now.fences told.target) }
+    ensures names { IfOk result (λ told. told.names.items ≡ names_of wanted.now.words.items) }
+    ensures outside { IsOutside wanted.now.fences.machine → result ≡ Err Fault.Configuration }
+    ensures told { IfErr result (IsFencesFault (F.held files.old) wanted.now) }
     ensures unprinted { IfErr result (λ fault. fault ≢ Fault.CannotWrite) }
     ensures spared { F.held files.new ≡ F.held files.old }
 {
-    let Some(config) = named_config(wanted.machine) else {
-        return Err(out_of_limits(alloc, files, wanted.machine));
+    let fences = wanted.fences;
+    let Some(config) = named_config(fences.machine) else {
+        return Err(out_of_limits(alloc, files, fences.machine));
     };
-    let memory = wanted.machine.memory;
-    let allowed = allow_file(alloc, files, wanted.allow)?;
-    let named = named_image_in(alloc, files, wanted.raw, wanted.image, memory)?;
-    let Ok(allowance) = audit_of(alloc, &named.image, config, wanted, &allowed, progress) else {
+    let memory = fences.machine.memory;
+    let allowed = allow_file(alloc, files, fences.allow)?;
+    let named = named_image_in(alloc, files, fences.raw, fences.image, memory)?;
+    let targets = targets_of(alloc, &named.image, &named.names, &wanted.words)?;
+    let target = target_of(alloc, files, fences)?;
+    let image = &named.image;
+    let Ok(allowance) = audit_of(alloc, image, config, fences, &targets, &allowed, progress) else {
         return Err(Fault::OutOfMemory);
     };
-    let symbols = named.names;
-    Ok(NamedAudit { allowance, symbols })
+    Ok(NamedAudit {
+        allowance,
+        names: targets.names,
+        symbols: named.names,
+        image: named.image,
+        target,
+    })
+}
+
+fn world_of(subject: Subject) -> World
+    ensures { result ≡ world_of subject }
+{
+    match subject {
+        Subject::Model => World::Model,
+        Subject::Machine => World::Machine,
+    }
 }
 
 /// What the image needs or lacks.
@@ -106,20 +148,29 @@ fn audit_of<P: Progress>(
     image: &Image,
     config: Config,
     wanted: Fences<'_>,
+    targets: &Targets<'_>,
     allowed: &Option<Vec<u8>>,
     progress: &P,
 ) -> Result<Allowance, AllocError>
     requires room { 0 < wanted.states }
-    ensures { IfOk result (IsSought image.now config wanted.entry.window wanted.entry.states (option_map (λ bytes. bytes.items) allowed.now)) }
+    requires words { CanShowEach image.now targets.now.addresses.items }
+    ensures { IfOk result (IsSought (world_of wanted.entry.subject) image.now config targets.now.addresses.items wanted.entry.window wanted.entry.states targets.now.names.items (option_map (λ bytes. bytes.items) allowed.now)) }
 {
     let question = Question {
         image,
         config,
-        addresses: &[],
+        addresses: &targets.addresses,
         window: wanted.window,
         limit: wanted.states,
+        world: world_of(wanted.subject),
     };
-    let found = sought(alloc, question, allowed, &Telling { progress });
+    let found = sought(
+        alloc,
+        question,
+        &targets.names,
+        allowed,
+        &Telling { progress },
+    );
     progress.end();
     found
 }
@@ -127,15 +178,15 @@ fn audit_of<P: Progress>(
 fn sought<W: Watch>(
     alloc: Global,
     question: Question<'_>,
+    names: &[WordName<'_>],
     allowed: &Option<Vec<u8>>,
     watch: &W,
 ) -> Result<Allowance, AllocError>
-    requires ready { IsReady question }
-    requires wordless { question.addresses.now ≡ [] }
-    ensures { IfOk result (IsSought question.entry.image.now question.entry.config question.entry.window question.entry.limit (option_map (λ bytes. bytes.items) allowed.now)) }
+    requires { IsReady question }
+    ensures { IfOk result (IsSought question.entry.world question.entry.image.now question.entry.config question.entry.addresses.now question.entry.window question.entry.limit names.now (option_map (λ bytes. bytes.items) allowed.now)) }
 {
     match allowed {
-        Some(text) => sought_within(alloc, question, text, watch),
+        Some(text) => sought_within(alloc, question, names, text, watch),
         None => sought_as_it_is(alloc, question, watch),
     }
 }
@@ -144,15 +195,15 @@ fn sought<W: Watch>(
 fn sought_within<W: Watch>(
     alloc: Global,
     question: Question<'_>,
+    names: &[WordName<'_>],
     text: &[u8],
     watch: &W,
 ) -> Result<Allowance, AllocError>
-    requires ready { IsReady question }
-    requires wordless { question.addresses.now ≡ [] }
-    ensures { IfOk result (IsSought question.entry.image.now question.entry.config question.entry.window question.entry.limit (Some text.now)) }
+    requires { IsReady question }
+    ensures { IfOk result (IsSought question.entry.world question.entry.image.now question.entry.config question.entry.addresses.now question.entry.window question.entry.limit names.now (Some text.now)) }
 {
     let allowed = Allowed::new(alloc, text)?;
-    audit_allowed(alloc, question, &[], &allowed, watch)
+    audit_allowed(alloc, question, names, &allowed, watch)
 }
 
 /// What the image needs for its own outcomes.
@@ -161,20 +212,19 @@ fn sought_as_it_is<W: Watch>(
     question: Question<'_>,
     watch: &W,
 ) -> Result<Allowance, AllocError>
-    requires ready { IsReady question }
-    requires wordless { question.addresses.now ≡ [] }
-    ensures { IfOk result (IsSought question.entry.image.now question.entry.config question.entry.window question.entry.limit None) }
+    requires { IsReady question }
+    ensures { (names : List WordName) → IfOk result (IsSought question.entry.world question.entry.image.now question.entry.config question.entry.addresses.now question.entry.window question.entry.limit names None) }
 {
     let audit = audit_program(alloc, question, watch)?;
     Ok(Allowance::Kept(audit))
 }
 
-fn print<'a, O: Write>(alloc: Global, told: &NamedAudit, out: &mut O) -> Result<(), Fault<'a>>
-    ensures printed { OnOk result (Appends (O.contents out.old) (O.contents out.new) (told_text told.now.symbols told.now.allowance)) }
+fn print<'a, O: Write>(alloc: Global, told: &NamedAudit<'_>, out: &mut O) -> Result<(), Fault<'a>>
+    ensures printed { OnOk result (Appends (O.contents out.old) (O.contents out.new) (told_text told.now.names.items told.now.symbols told.now.allowance)) }
     ensures told { IfErr result (λ fault. (fault ≡ Fault.CannotWrite) ⊎ (fault ≡ Fault.OutOfMemory)) }
-    ensures begun { OnErr result (Begins (O.contents out.old) (O.contents out.new) (told_text told.now.symbols told.now.allowance)) }
+    ensures begun { OnErr result (Begins (O.contents out.old) (O.contents out.new) (told_text told.now.names.items told.now.symbols told.now.allowance)) }
 {
-    let Ok(text) = told_text(alloc, &told.symbols, &told.allowance) else {
+    let Ok(text) = told_text(alloc, &told.names, &told.symbols, &told.allowance) else {
         return Err(Fault::OutOfMemory);
     };
     if let Err(error) = put_pieces(out, &[Piece::Text(&text)]) {
@@ -186,11 +236,16 @@ fn print<'a, O: Write>(alloc: Global, told: &NamedAudit, out: &mut O) -> Result<
     }
 }
 
-fn told_text(alloc: Global, symbols: &Symbols, allowance: &Allowance) -> Result<Vec<u8>, AllocError>
-    ensures { IfOk result (λ bytes. bytes.items ≡ told_text symbols.now allowance.now) }
+fn told_text(
+    alloc: Global,
+    names: &[WordName<'_>],
+    symbols: &Symbols,
+    allowance: &Allowance,
+) -> Result<Vec<u8>, AllocError>
+    ensures { IfOk result (λ bytes. bytes.items ≡ told_text names.now symbols.now allowance.now) }
 {
     match allowance {
-        Allowance::Kept(audit) => text_of(alloc, &[], symbols, audit),
-        Allowance::Broken(missing) => lacking_text(alloc, &[], symbols, missing),
+        Allowance::Kept(audit) => text_of(alloc, names, symbols, audit),
+        Allowance::Broken(missing) => lacking_text(alloc, names, symbols, missing),
     }
 }

@@ -2,5 +2,6 @@
 #![tactic(auto)]
 
 mod fencing;
+mod keeping;
 
 pub use fencing::fences_files;

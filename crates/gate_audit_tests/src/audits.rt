@@ -3,7 +3,9 @@ ghost use Rattle.std.specs.Prelude.{◌<◌};
 
 use elf_loader::{Image, raw, size_of_kib};
 use fence_audit::allowed_outcomes::Allowed;
-use fence_audit::{Allowance, Audit, Missing, Question, audit_allowed, audit_program, is_whole};
+use fence_audit::{
+    Allowance, Audit, Missing, Question, World, audit_allowed, audit_program, is_whole,
+};
 use image_orderings::Patch;
 use machine_types::{Config, MemoryModel};
 use state_search::Unwatched;
@@ -21,7 +23,13 @@ fn image_of(alloc: Global, words: &[u32]) -> Result<Image, Fail> {
     Ok(raw(alloc, &bytes, size)?)
 }
 
-fn audit_in(alloc: Global, image: &Image, config: Config, limit: u32) -> Result<Audit, AllocError>
+fn audit_in(
+    alloc: Global,
+    image: &Image,
+    config: Config,
+    limit: u32,
+    world: World,
+) -> Result<Audit, AllocError>
     requires { 0 < limit }
 {
     let question = Question {
@@ -30,6 +38,7 @@ fn audit_in(alloc: Global, image: &Image, config: Config, limit: u32) -> Result<
         addresses: &[],
         window: 16,
         limit,
+        world,
     };
     audit_program(alloc, question, &Unwatched)
 }
@@ -40,12 +49,13 @@ fn audit_of(
     harts: u32,
     model: MemoryModel,
     limit: u32,
+    world: World,
 ) -> Result<Audit, Fail>
     requires { 0 < limit }
 {
     let image = image_of(alloc, words)?;
     let config = Config::new(harts, 1, 2, LineSize::Bytes16, model).ok_or("limits")?;
-    Ok(audit_in(alloc, &image, config, limit)?)
+    Ok(audit_in(alloc, &image, config, limit, world)?)
 }
 
 /// What the program lacks of two harts for the outcomes that a text allows.
@@ -58,6 +68,7 @@ fn missing_of(alloc: Global, words: &[u32], text: &[u8]) -> Result<Missing, Fail
         addresses: &[],
         window: 16,
         limit: 100_000,
+        world: World::Model,
     };
     let allowed = Allowed::new(alloc, text)?;
     match audit_allowed(alloc, question, &[], &allowed, &Unwatched)? {
@@ -84,7 +95,7 @@ fn ends_with(
     searches: usize,
     last: &[u32],
 ) -> Result<(), Fail> {
-    let audit = audit_of(rt.alloc(), words, harts, model, 100_000)?;
+    let audit = audit_of(rt.alloc(), words, harts, model, 100_000, World::Model)?;
     assert!(rt; is_whole(&audit.known));
     assert_eq!(rt; audit.searches.len(), searches);
     assert!(rt; leaves(&audit.last, last));
@@ -194,7 +205,7 @@ fn a_lock_by_amoswap(rt: HostRuntime) -> Result<(), Fail> {
 // A search of one state decides nothing.
 #[test]
 fn a_bound_of_the_first_search(rt: HostRuntime) -> Result<(), Fail> {
-    let audit = audit_of(rt.alloc(), &MESSAGE, 2, MemoryModel::Rvwmo, 1)?;
+    let audit = audit_of(rt.alloc(), &MESSAGE, 2, MemoryModel::Rvwmo, 1, World::Model)?;
     assert!(&rt; !is_whole(&audit.known));
     assert_eq!(&rt; audit.searches.len(), 0);
     Ok(())
@@ -237,4 +248,89 @@ fn a_ticket_lock_without_a_fence(rt: HostRuntime) -> Result<(), Fail> {
     assert_eq!(&rt; missing.searches.len(), 6);
     assert!(&rt; leaves(&missing.last, &[0x01c2_aeaf, 0x0220_000f, 0x0310_000f]));
     Ok(())
+}
+
+// This machine does loads in program order, and a store may leave the buffer before one to another line: the second fence
+// isn't needed there. Searched are the program without the first, without the second, and without both.
+#[test]
+fn a_message_on_this_machine(rt: HostRuntime) -> Result<(), Fail> {
+    let model = MemoryModel::Rvwmo;
+    let audit = audit_of(rt.alloc(), &MESSAGE, 2, model, 100_000, World::Machine)?;
+    assert!(&rt; is_whole(&audit.known));
+    assert_eq!(&rt; audit.searches.len(), 3);
+    assert!(&rt; leaves(&audit.last, &[0x0110_000f, NOP]));
+    Ok(())
+}
+
+/// Ends the test unless the program has so many orderings, and a hart may come to so many of them, each of which a search
+/// leaves out.
+fn meets(
+    rt: &(impl Abort + AllocGlobal),
+    words: &[u32],
+    orderings: usize,
+    met: usize,
+) -> Result<(), Fail> {
+    let model = MemoryModel::Rvwmo;
+    let audit = audit_of(rt.alloc(), words, 1, model, 100_000, World::Model)?;
+    assert!(rt; is_whole(&audit.known));
+    assert_eq!(rt; audit.orderings.len(), orderings);
+    assert_eq!(rt; audit.met.len(), met);
+    assert_eq!(rt; audit.searches.len(), met);
+    Ok(())
+}
+
+// lui t0, 0x80000; lw a0, 28(t0); addi a7, x0, 1; ecall; addi a7, x0, 0; ecall; fence rw, rw; and two words of data that
+// look like `fence rw, rw` and `amoadd.w.aqrl x0, x0, (x0)`, of which it puts out the first.
+static BEHIND: [u32; 9] = [
+    0x8000_02b7,
+    0x01c2_a503,
+    0x0010_0893,
+    0x0000_0073,
+    0x0000_0893,
+    0x0000_0073,
+    0x0330_000f,
+    0x0330_000f,
+    0x0600_202f,
+];
+
+#[test]
+fn data_and_what_stands_behind_the_exit(rt: HostRuntime) -> Result<(), Fail> {
+    meets(&rt, &BEHIND, 4, 0)
+}
+
+// jal ra, 16; fence rw, rw; addi a7, x0, 0; ecall; and a function: jalr x0, 0(ra); fence rw, rw.
+static CALLED: [u32; 6] = [
+    0x0100_00ef,
+    0x0330_000f,
+    0x0000_0893,
+    0x0000_0073,
+    0x0000_8067,
+    0x0330_000f,
+];
+
+#[test]
+fn a_function_that_returns(rt: HostRuntime) -> Result<(), Fail> {
+    meets(&rt, &CALLED, 2, 1)
+}
+
+// addi a7, x0, 1; bne a0, x0, 8; addi a7, x0, 0; ecall; fence rw, rw: hart 0 exits, but another would go on.
+static EITHER: [u32; 5] = [
+    0x0010_0893,
+    0x0005_1463,
+    0x0000_0893,
+    0x0000_0073,
+    0x0330_000f,
+];
+
+#[test]
+fn a_call_that_exits_on_one_way(rt: HostRuntime) -> Result<(), Fail> {
+    meets(&rt, &EITHER, 1, 1)
+}
+
+// lui t0, 0x80000; lw ra, 0x40(t0); jalr x0, 0(ra); fence rw, rw: it may return to any address.
+static ANYWHERE: [u32; 4] = [0x8000_02b7, 0x0402_a083, 0x0000_8067, 0x0330_000f];
+
+#[test]
+fn a_jump_by_what_was_loaded(rt: HostRuntime) -> Result<(), Fail> {
+    meets(&rt, &ANYWHERE, 1, 1)
 }

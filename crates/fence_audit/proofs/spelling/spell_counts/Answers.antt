@@ -6,10 +6,10 @@ use Rattle.fence_audit.proofs.spelling.spell_counts.Goals as goal
 pub returns : goal.returns
 returns c =
     let a = c.args.audit.now in
-    let orderings : c.len.result ≡ length a.orderings.items = search rules in
+    let orderings : c.len.result ≡ length a.met.items = search rules in
     let searches : c.len-2.result ≡ length a.searches.items = search rules in
     let outcomes : c.len-3.result ≡ length a.known.outcomes.items = search rules in
-    joined_more _ _ _ _ _ _ _ _ _ c.in_ok-extend_from_slice.ensures.items
-    (c.in_ok-spell_counted.ensures ∙ ap (λ n. c.extend_from_slice.new.self.items ++ counted n (codes " orderings, ")) orderings)
+    joined_more _ _ _ _ _ _ _ _ _ c.in_ok-spell_searched.ensures
+    (c.in_ok-spell_counted.ensures ∙ ap (λ n. c.spell_searched.new.into.items ++ counted n (codes " orderings, ")) orderings)
     (c.in_ok-spell_counted-2.ensures ∙ ap (λ n. c.spell_counted.new.into.items ++ counted (n + 1) (codes " programs, ")) searches)
     (c.in_ok-spell_outcomes.ensures ∙ ap (λ n. c.spell_counted-2.new.into.items ++ outcomes_text n) outcomes)

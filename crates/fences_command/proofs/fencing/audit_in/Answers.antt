@@ -1,29 +1,58 @@
-use Rattle.std.proofs.Common.{refl}
+use Rattle.std.proofs.Common.{◌≡◌, ◌∙◌, List, refl, subst}
+use Rattle.command_files.specs.Faults.{Name}
+use Rattle.explore_command.specs.Targets.{AreAddressesOf, names_of}
 use Rattle.command_files.proofs.Left.{handed_up, image_as_before, image_is_not_write}
-use Rattle.fences_command.proofs.Told.{allow_is_not_write, of_allow, of_file, of_image}
+use Rattle.fences_command.proofs.Told.{allow_is_not_write, of_allow, of_file, of_image, of_target, of_words, target_is_not_write, words_are_not_write}
+use Rattle.fences_command.specs.Keeping.{IsTarget}
 use Rattle.fences_command.proofs.fencing.audit_in.Goals as goal
 
 pub returns-in_err-allowed-clause-told : goal.returns-in_err-allowed-clause-told
 returns-in_err-allowed-clause-told g c =
-    handed_up _ c.from_residual.result _ c.from_residual.ensures.1 (of_allow (g.F.Files.held c.args.files.now) c.args.wanted c.args.wanted.allow _ refl c.in_err-allowed.ensures.told)
+    handed_up _ c.from_residual.result _ c.from_residual.ensures.1 (of_allow (g.F.Files.held c.args.files.now) c.args.wanted.now c.args.wanted.now.fences.allow _ refl c.in_err-allowed.ensures.told)
 
 pub returns-in_err-allowed-clause-unprinted : goal.returns-in_err-allowed-clause-unprinted
 returns-in_err-allowed-clause-unprinted g c =
-    handed_up _ c.from_residual.result _ c.from_residual.ensures.1 (allow_is_not_write c.args.wanted.allow _ c.in_err-allowed.ensures.told)
+    handed_up _ c.from_residual.result _ c.from_residual.ensures.1 (allow_is_not_write c.args.wanted.now.fences.allow _ c.in_err-allowed.ensures.told)
 
 pub returns-in_err-named-clause-told : goal.returns-in_err-named-clause-told
 returns-in_err-named-clause-told g c =
     let held = g.F.Files.held c.args.files.now in
+    let fences = c.args.wanted.now.fences in
     handed_up _ c.from_residual-in_err-named.result _ c.from_residual-in_err-named.ensures.1
-    (of_image held c.args.wanted _
-    (image_as_before (g.F.Files.held c.allow_file.new.files) held c.args.wanted.raw c.args.wanted.image c.args.wanted.machine.memory _ c.in_ok-allowed.ensures.stays c.in_err-named.ensures.fault))
+    (of_image held c.args.wanted.now _
+    (image_as_before (g.F.Files.held c.allow_file.new.files) held fences.raw fences.image fences.machine.memory _ c.in_ok-allowed.ensures.stays c.in_err-named.ensures.fault))
 
 pub returns-in_err-named-clause-unprinted : goal.returns-in_err-named-clause-unprinted
 returns-in_err-named-clause-unprinted g c =
+    let fences = c.args.wanted.now.fences in
     handed_up _ c.from_residual-in_err-named.result _ c.from_residual-in_err-named.ensures.1
-    (image_is_not_write (g.F.Files.held c.allow_file.new.files) c.args.wanted.raw c.args.wanted.image c.args.wanted.machine.memory _ c.in_err-named.ensures.fault)
+    (image_is_not_write (g.F.Files.held c.allow_file.new.files) fences.raw fences.image fences.machine.memory _ c.in_err-named.ensures.fault)
+
+pub returns-in_err-targets-clause-told : goal.returns-in_err-targets-clause-told
+returns-in_err-targets-clause-told g c =
+    handed_up _ c.from_residual-in_err-targets.result _ c.from_residual-in_err-targets.ensures.1
+    (of_words (g.F.Files.held c.args.files.now) (g.F.Files.held c.allow_file.new.files) c.args.wanted.now c.in_ok-named.named.image c.in_ok-named.named.names _ _ c.deref.ensures.value c.in_ok-allowed.ensures.stays c.in_ok-named.ensures.image c.in_err-targets.ensures.told)
+
+pub returns-in_err-targets-clause-unprinted : goal.returns-in_err-targets-clause-unprinted
+returns-in_err-targets-clause-unprinted g c =
+    handed_up _ c.from_residual-in_err-targets.result _ c.from_residual-in_err-targets.ensures.1
+    (words_are_not_write c.in_ok-named.named.image c.in_ok-named.named.names _ _ c.in_err-targets.ensures.told)
+
+pub returns-in_err-target-clause-told : goal.returns-in_err-target-clause-told
+returns-in_err-target-clause-told g c =
+    handed_up _ c.from_residual-in_err-target.result _ c.from_residual-in_err-target.ensures.1 (of_target (g.F.Files.held c.args.files.now) c.args.wanted.now _ c.in_err-target.ensures.told)
+
+pub returns-in_err-target-clause-unprinted : goal.returns-in_err-target-clause-unprinted
+returns-in_err-target-clause-unprinted g c =
+    handed_up _ c.from_residual-in_err-target.result _ c.from_residual-in_err-target.ensures.1 (target_is_not_write (g.F.Files.held c.args.files.now) c.args.wanted.now _ c.in_err-target.ensures.told)
+
+pub returns-clause-target : goal.returns-clause-target
+returns-clause-target g c =
+    subst (λ h. IsTarget h c.args.wanted.now.fences c.in_ok-target.target) (c.in_ok-named.ensures.stays ∙ c.in_ok-allowed.ensures.stays) c.in_ok-target.ensures.target
 
 pub returns-clause-of_file : goal.returns-clause-of_file
 returns-clause-of_file g c =
-    of_file (g.F.Files.held c.args.files.now) (g.F.Files.held c.allow_file.new.files) c.args.wanted c.in-Some.config c.in_ok-named.named.image c.in_ok-named.named.names _ c.in-Ok.allowance
-    c.in-Some.ensures.config.0 c.in-Some.ensures.config.1 c.in_ok-allowed.ensures.stays c.in_ok-allowed.ensures.read c.in_ok-named.ensures.image c.in-Ok.ensures
+    let targets = c.in_ok-targets.targets in
+    of_file (g.F.Files.held c.args.files.now) (g.F.Files.held c.allow_file.new.files) c.args.wanted.now c.in-Some.config c.in_ok-named.named.image c.in_ok-named.named.names targets.addresses.items targets.names.items _ c.in-Ok.allowance
+    c.in-Some.ensures.config.0 c.in-Some.ensures.config.1 c.in_ok-allowed.ensures.stays c.in_ok-allowed.ensures.read (subst (λ (words : List Name). AreAddressesOf c.in_ok-named.named.names words targets.addresses.items) c.deref.ensures.value c.in_ok-targets.ensures.placed)
+    (subst (λ (words : List Name). targets.names.items ≡ names_of words) c.deref.ensures.value c.in_ok-targets.ensures.names) c.in_ok-named.ensures.image c.in-Ok.ensures

@@ -4,4 +4,4 @@ use Rattle.fences_command.proofs.fencing.sought_within.Goals as goal
 pub returns : goal.returns
 returns g c =
     let q = c.args.question in
-    of_allowed q.image.now q.config q.addresses.now q.window q.limit _ _ c.audit_allowed.result c.requires.wordless c.in_ok-allowed.ensures c.audit_allowed.ensures
+    of_allowed q.world q.image.now q.config q.addresses.now q.window q.limit c.args.names.now _ _ c.audit_allowed.result c.in_ok-allowed.ensures c.audit_allowed.ensures
