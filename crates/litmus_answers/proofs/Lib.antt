@@ -3,3 +3,7 @@ pub mod Counts
 pub mod Sorting
 pub mod Parting
 pub mod Faults
+pub mod Logs
+pub mod Pieces
+pub mod Spelled
+pub mod ReadBack

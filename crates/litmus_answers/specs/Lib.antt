@@ -7,3 +7,6 @@ pub mod Blocks
 pub mod Naming
 pub mod Layouts
 pub mod Faults
+pub mod Logs
+pub mod Entries
+pub mod Laws

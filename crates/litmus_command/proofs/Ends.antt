@@ -6,8 +6,12 @@ use Rattle.std.proofs.lemmas.Bool.{false≢true}
 use Rattle.command_files.specs.Contents.{Contents, HoldsBytes}
 use Rattle.litmus_answers.proofs.Faults.{is_fault}
 use Rattle.litmus_command.specs.Answers.{AnswersTest}
-use Rattle.litmus_command.specs.Ended.{Ends, IsAnswered, IsEnd, IsPrinted, IsRefused, IsSent, IsStop, IsTrouble, IsUnread, HasOther, is_other}
+use Rattle.litmus_command.specs.Comparing.{AreLogs, Logged, as_logged, logged}
+use Rattle.litmus_command.specs.Ended.{Ends, IsAnswered, IsEnd, IsHeldBack, IsPrinted, IsRefused, IsSent, IsStop, IsTrouble, IsUnread, HasOther, is_other}
+use Rattle.litmus_command.specs.Waiting.{are_named}
 use Rattle.litmus_command.specs.Wishes.{Wishes, are_compared}
+use Rattle.litmus_command.specs.declared.logs.Logs.{Logs}
+use Rattle.litmus_command.proofs.Logged.{as_named}
 use Rattle.litmus_command.specs.declared.ended.Ended.{Ended}
 use Rattle.litmus_command.specs.declared.ended.Ended.TheVariants.{Answered, Differs, Skipped, Failed, Closed, NoMemory}
 use Rattle.litmus_command.specs.declared.fault.Trouble.{Trouble}
@@ -21,23 +25,23 @@ use Rattle.text_fields.proofs.Written.{appends_none}
 
 -- ---- what goes out
 
-module _ (text : List ℕ) (is_proved : Bool) (old new : Option (List ℕ)) where
+module _ (logs : Logged) (text : List ℕ) (is_proved : Bool) (old new : Option (List ℕ)) where
   -- an answer that isn't compared goes out
-  pub sent_alone : (compared : Bool) (e : Ended) → compared ≡ false → IsSent text old new (Answered is_proved) e → IsPrinted compared text is_proved old new e
+  pub sent_alone : (compared : Bool) (e : Ended) → compared ≡ false → IsSent text old new (Answered is_proved) e → IsPrinted logs compared text is_proved old new e
   sent_alone true e is so = absurd cc
-  sent_alone false e is (inl done) = subst (IsPrinted false text is_proved old new) (sym done.0) (refl, done.1)
-  sent_alone false e is (inr cut) = subst (IsPrinted false text is_proved old new) (sym cut.0) cut.1
+  sent_alone false e is (inl done) = subst (IsPrinted logs false text is_proved old new) (sym done.0) (refl, (λ so. absurd (false≢true so)), done.1)
+  sent_alone false e is (inr cut) = subst (IsPrinted logs false text is_proved old new) (sym cut.0) cut.1
 
   -- one that differs goes out
-  pub sent_differing : (compared : Bool) (e : Ended) → compared ≡ true → IsSent text old new (Differs is_proved) e → IsPrinted compared text is_proved old new e
-  sent_differing true e is (inl done) = subst (IsPrinted true text is_proved old new) (sym done.0) (refl, refl, done.1)
-  sent_differing true e is (inr cut) = subst (IsPrinted true text is_proved old new) (sym cut.0) cut.1
-  sent_differing false e is so = absurd cc
+  pub sent_differing : (compared : Bool) (e : Ended) → compared ≡ true → as_logged logs text ≡ false → IsSent text old new (Differs is_proved) e → IsPrinted logs compared text is_proved old new e
+  sent_differing true e is other (inl done) = subst (IsPrinted logs true text is_proved old new) (sym done.0) (refl, refl, other, done.1)
+  sent_differing true e is other (inr cut) = subst (IsPrinted logs true text is_proved old new) (sym cut.0) cut.1
+  sent_differing false e is other so = absurd cc
 
 -- one that agrees doesn't
-pub unsent : (text : List ℕ) (is_proved : Bool) (old : Option (List ℕ)) (compared : Bool) → compared ≡ true → IsPrinted compared text is_proved old old (Answered is_proved)
-unsent text is_proved old true is = (refl, appends_none old)
-unsent text is_proved old false is = absurd cc
+pub unsent : (logs : Logged) (text : List ℕ) (is_proved : Bool) (old : Option (List ℕ)) (compared : Bool) → compared ≡ true → as_logged logs text ≡ true → IsPrinted logs compared text is_proved old old (Answered is_proved)
+unsent logs text is_proved old true is same = (refl, (λ so. same), appends_none old)
+unsent logs text is_proved old false is same = absurd cc
 
 -- ---- how a file ends
 
@@ -81,14 +85,29 @@ module _ (held : Contents) (w : Wishes) (name : List ℕ) where
   refused bytes old why Closed holds is so = absurd so
   refused bytes old why NoMemory holds is so = quietly old NoMemory refl
 
-  -- an answer to the test that the file's bytes say went out, or was held back, or can't go out
-  pub printed : (text : List ℕ) (is_proved : Bool) (old new : Option (List ℕ)) (e : Ended) → IsAnswered held w name text is_proved → IsPrinted (are_compared w) text is_proved old new e → Ends held w name old new e
-  printed text is_proved old new (Answered told) answered is = record { sent = if are_compared w then [] else text; is_end = (text, subst (IsAnswered held w name text) (sym is.0) answered, refl); went = is.1 }
-  printed text is_proved old new (Differs told) answered is = record { sent = text; is_end = (subst (IsAnswered held w name text) (sym is.0) answered, is.1); went = is.2 }
-  printed text is_proved old new Skipped answered is = absurd is
-  printed text is_proved old new Failed answered is = absurd is
-  printed text is_proved old new Closed answered is = record { sent = is.front; is_end = (text, is_proved, answered, (is.rest, is.parts)); went = is.sent }
-  printed text is_proved old new NoMemory answered is = record { sent = []; is_end = refl; went = subst (λ (n : Option (List ℕ)). Appends old n []) (sym is) (appends_none old) }
+  held_back : (logs : Logged) (text : List ℕ) (compared : Bool) → AreLogs held w logs → (compared ≡ true → as_logged logs text ≡ true) → IsHeldBack held w compared text (if compared then [] else text)
+  held_back logs text false are same = refl
+  held_back logs text true are same = (record { logs = logs; are_logs = are; judged = same refl }, refl)
 
-  pub answered : (bytes text : List ℕ) (is_proved compared : Bool) (old new : Option (List ℕ)) (e : Ended) → HoldsBytes held name bytes → AnswersTest bytes w text is_proved → compared ≡ are_compared w → IsPrinted compared text is_proved old new e → Ends held w name old new e
-  answered bytes text is_proved compared old new e holds answer same is = printed text is_proved old new e (bytes, holds, answer) (subst (λ c. IsPrinted c text is_proved old new e) same is)
+  -- an answer to the test that the file's bytes say went out, or was held back, or can't go out
+  pub printed : (logs : Logged) (text : List ℕ) (is_proved : Bool) (old new : Option (List ℕ)) (e : Ended) → AreLogs held w logs → IsAnswered held w name text is_proved → IsPrinted logs (are_compared w) text is_proved old new e
+      → Ends held w name old new e
+  printed logs text is_proved old new (Answered told) are answered is = record {
+    sent = if are_compared w then [] else text;
+    is_end = (text, subst (IsAnswered held w name text) (sym is.0) answered, held_back logs text (are_compared w) are is.1);
+    went = is.2;
+  }
+  printed logs text is_proved old new (Differs told) are answered is = record {
+    sent = text;
+    is_end = (subst (IsAnswered held w name text) (sym is.0) answered, is.1, record { logs = logs; are_logs = are; judged = is.2 });
+    went = is.3;
+  }
+  printed logs text is_proved old new Skipped are answered is = absurd is
+  printed logs text is_proved old new Failed are answered is = absurd is
+  printed logs text is_proved old new Closed are answered is = record { sent = is.front; is_end = (text, is_proved, answered, (is.rest, is.parts)); went = is.sent }
+  printed logs text is_proved old new NoMemory are answered is = record { sent = []; is_end = refl; went = subst (λ (n : Option (List ℕ)). Appends old n []) (sym is) (appends_none old) }
+
+  pub answered : (logs : Logs) (bytes text : List ℕ) (is_proved : Bool) (old new : Option (List ℕ)) (e : Ended) → AreLogs held w (logged logs) → HoldsBytes held name bytes → AnswersTest bytes w text is_proved
+      → IsPrinted (logged logs) (are_named logs) text is_proved old new e → Ends held w name old new e
+  answered logs bytes text is_proved old new e are holds answer is =
+      printed (logged logs) text is_proved old new e are (bytes, holds, answer) (subst (λ c. IsPrinted (logged logs) c text is_proved old new e) (as_named held w logs are) is)

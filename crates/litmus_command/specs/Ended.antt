@@ -12,6 +12,7 @@ use Rattle.litmus_answers.specs.Faults.{MakesNoProgram}
 use Rattle.litmus_answers.specs.Layouts.{IsLayout}
 use Rattle.litmus_answers.specs.declared.layout.Layout.{Layout}
 use Rattle.litmus_command.specs.Answers.{AnswersTest, IsHalt}
+use Rattle.litmus_command.specs.Comparing.{IsJudged, Logged, as_logged}
 use Rattle.litmus_command.specs.Wishes.{Wishes, are_compared}
 use Rattle.litmus_parts.specs.Stops.{fault_of, line_of}
 use Rattle.litmus_parts.specs.declared.stop.Cause.{Cause}
@@ -134,10 +135,15 @@ HasOther held name = (bytes : List ℕ) × HoldsBytes held name bytes × ((cause
 abbrev pub IsBegun : Contents → Wishes → (name sent : List ℕ) → Type 0
 IsBegun held w name sent = (text : List ℕ) × (is_proved : Bool) × IsAnswered held w name text is_proved × ((rest : List ℕ) × (text ≡ sent ++ rest))
 
--- how the file of this name ended, and what went out: its answer, but where that is as the logs have it; a beginning of the answer where standard output takes no more
+-- an answer went out; or it is compared, is as the logs have it, and was held back
+abbrev pub IsHeldBack : Contents → Wishes → (compared : Bool) → (text sent : List ℕ) → Type 0
+IsHeldBack held w false text sent = sent ≡ text
+IsHeldBack held w true text sent = IsJudged held w text true × (sent ≡ [])
+
+-- how the file of this name ended, and what went out: its answer, but where that is as the logs have it, and one that isn't differs; a beginning of the answer where standard output takes no more
 abbrev pub IsEnd : Contents → Wishes → (name : List ℕ) → Ended → (sent : List ℕ) → Type 0
-IsEnd held w name (Answered is_proved) sent = (text : List ℕ) × IsAnswered held w name text is_proved × (sent ≡ (if are_compared w then [] else text))
-IsEnd held w name (Differs is_proved) sent = IsAnswered held w name sent is_proved × IsTrue (are_compared w)
+IsEnd held w name (Answered is_proved) sent = (text : List ℕ) × IsAnswered held w name text is_proved × IsHeldBack held w (are_compared w) text sent
+IsEnd held w name (Differs is_proved) sent = IsAnswered held w name sent is_proved × IsTrue (are_compared w) × IsJudged held w sent false
 IsEnd held w name Skipped sent = HasOther held name × (sent ≡ [])
 IsEnd held w name Failed sent = sent ≡ []
 IsEnd held w name Closed sent = IsBegun held w name sent
@@ -159,13 +165,13 @@ IsUnread Closed = ⊥
 IsUnread NoMemory = Unit {0}
 
 -- an answer went out, if it isn't as the logs have it; or a beginning of it, or nothing for want of memory
-abbrev pub IsPrinted : (compared : Bool) → (text : List ℕ) → (is_proved : Bool) → (old new : Option (List ℕ)) → Ended → Type 0
-IsPrinted compared text is_proved old new (Answered told) = (told ≡ is_proved) × Appends old new (if compared then [] else text)
-IsPrinted compared text is_proved old new (Differs told) = (told ≡ is_proved) × IsTrue compared × Appends old new text
-IsPrinted compared text is_proved old new Skipped = ⊥
-IsPrinted compared text is_proved old new Failed = ⊥
-IsPrinted compared text is_proved old new Closed = Begins old new text
-IsPrinted compared text is_proved old new NoMemory = new ≡ old
+abbrev pub IsPrinted : Logged → (compared : Bool) → (text : List ℕ) → (is_proved : Bool) → (old new : Option (List ℕ)) → Ended → Type 0
+IsPrinted logs compared text is_proved old new (Answered told) = (told ≡ is_proved) × (compared ≡ true → as_logged logs text ≡ true) × Appends old new (if compared then [] else text)
+IsPrinted logs compared text is_proved old new (Differs told) = (told ≡ is_proved) × IsTrue compared × (as_logged logs text ≡ false) × Appends old new text
+IsPrinted logs compared text is_proved old new Skipped = ⊥
+IsPrinted logs compared text is_proved old new Failed = ⊥
+IsPrinted logs compared text is_proved old new Closed = Begins old new text
+IsPrinted logs compared text is_proved old new NoMemory = new ≡ old
 
 -- all of an answer went out, or a beginning of it
 abbrev pub IsSent : (text : List ℕ) → (old new : Option (List ℕ)) → (wanted ended : Ended) → Type 0

@@ -4,6 +4,7 @@ pub mod Listing
 pub mod States
 pub mod Programs
 pub mod Answers
+pub mod Comparing
 pub mod Ended
 pub mod Line
 pub mod Waiting

@@ -1,6 +1,8 @@
 //! The whole command.
 ghost use Rattle.std.specs.Prelude.{◌≡◌, ◌<◌, ◌≤◌, ◌++◌, ◌∷◌, MatchOption, IfErr, IfOk, false, is_some, map, true};
+ghost use Rattle.std.specs.Option.{option_map};
 ghost use Rattle.command_files.specs.Contents.{HoldsBytes};
+ghost use Rattle.litmus_command.specs.Comparing as comparing;
 ghost use Rattle.litmus_command.specs.Ended as ends;
 ghost use Rattle.litmus_command.specs.Line as line;
 ghost use Rattle.litmus_command.specs.Requests.{texts};
@@ -80,7 +82,7 @@ fn send<O: Write>(reply: &Reply, ended: Ended, out: &mut O) -> Ended
 /// Prints the answer to a test, unless it agrees with the logs that are named.
 #[tactic(auto, using(crate::proofs::Ends::sent_alone, crate::proofs::Ends::sent_differing, crate::proofs::Ends::unsent))]
 fn print<O: Write>(alloc: Global, reply: &Reply, logs: &Logs, out: &mut O) -> Ended
-    ensures { ends.IsPrinted (waiting.are_named logs.now) reply.now.text.items reply.now.is_proved (O.contents out.old) (O.contents out.new) result }
+    ensures { ends.IsPrinted (comparing.logged logs.now) (waiting.are_named logs.now) reply.now.text.items reply.now.is_proved (O.contents out.old) (O.contents out.new) result }
 {
     let is_proved = reply.is_proved;
     if !logs.are_named() {
@@ -105,7 +107,7 @@ fn answer_file<F: Files, O: Write, E: Write>(
     err: &mut E,
 ) -> Ended
     requires states { 0 < wanted.states }
-    requires logs { waiting.are_named logs.now ≡ wishes.are_compared (wishes.wishes wanted) }
+    requires logs { comparing.AreLogs (F.held files.old) (wishes.wishes wanted) (comparing.logged logs.now) }
     ensures end { ends.Ends (F.held files.old) (wishes.wishes wanted.entry) name.now (O.contents out.old) (O.contents out.new) result }
     ensures stays { F.held files.new ≡ F.held files.old }
 {
@@ -126,7 +128,7 @@ fn log_in<F: Files, E: Write>(
     name: Option<&str>,
     err: &mut E,
 ) -> Result<Option<Vec<Entry>>, Ended>
-    ensures log { IfOk result (λ log. is_some log ≡ is_some name.entry) }
+    ensures log { IfOk result (λ log. comparing.IsLog (F.held files.old) (option_map (λ name. name.now) name.entry) (comparing.read log)) }
     ensures named { IfErr result (λ _. is_some name.entry ≡ true) }
     ensures stopped { IfErr result ends.IsUnread }
     ensures stays { F.held files.new ≡ F.held files.old }
@@ -142,14 +144,14 @@ fn log_in<F: Files, E: Write>(
 }
 
 /// The logs that are named.
-#[tactic(auto, using(crate::proofs::Logged::as_named, crate::proofs::Logged::expects, crate::proofs::Logged::has_seen))]
+#[tactic(auto, using(crate::proofs::Logged::expects, crate::proofs::Logged::has_seen))]
 fn logs_of<F: Files, E: Write>(
     alloc: Global,
     files: &mut F,
     wanted: Wanted<'_>,
     err: &mut E,
 ) -> Result<Logs, Ended>
-    ensures logs { IfOk result (λ logs. waiting.are_named logs ≡ wishes.are_compared (wishes.wishes wanted.entry)) }
+    ensures logs { IfOk result (λ logs. comparing.AreLogs (F.held files.old) (wishes.wishes wanted.entry) (comparing.logged logs)) }
     ensures named { IfErr result (λ _. wishes.are_compared (wishes.wishes wanted.entry) ≡ true) }
     ensures stopped { IfErr result ends.IsUnread }
     ensures stays { F.held files.new ≡ F.held files.old }
@@ -219,7 +221,7 @@ fn take<F: Files, O: Write, E: Write>(
     err: &mut E,
 ) -> Option<Ended>
     requires states { 0 < wanted.states }
-    requires logs { waiting.are_named logs.now ≡ wishes.are_compared (wishes.wishes wanted) }
+    requires logs { comparing.AreLogs (F.held files.old) (wishes.wishes wanted) (comparing.logged logs.now) }
     requires lists { lists.old ≤ 1000 }
     ensures lists { lists.new ≤ 1000 }
     ensures took { waiting.Takes (F.held files.old) (wishes.wishes wanted.entry) name.now (waiting.waiting pending.old.items) lists.old (O.contents out.old)
@@ -258,7 +260,7 @@ fn take_next<F: Files, O: Write, E: Write>(
     err: &mut E,
 ) -> Result<(), u8>
     requires states { 0 < wanted.states }
-    requires logs { waiting.are_named logs.now ≡ wishes.are_compared (wishes.wishes wanted) }
+    requires logs { comparing.AreLogs (F.held files.old) (wishes.wishes wanted) (comparing.logged logs.now) }
     requires lists { lists.old ≤ 1000 }
     ensures lists { lists.new ≤ 1000 }
     ensures counted { IfOk result (λ _. waiting.GoesOn (F.held files.old) (wishes.wishes wanted.entry) name.now (waiting.waiting pending.old.items) lists.old counts.old (O.contents out.old)
@@ -278,7 +280,7 @@ fn take_next<F: Files, O: Write, E: Write>(
 
 /// Answers the tests of the files that are named, and of those in lists; or the status with which the command ends
 /// before.
-#[tactic(auto, using(crate::proofs::Walking::begun, crate::proofs::Walking::further, crate::proofs::Walking::cut_off, crate::proofs::Walking::cut_first, crate::proofs::Walking::all_counted, crate::proofs::Walking::too_many, crate::proofs::Walking::next_name, crate::proofs::Walking::some_wait, crate::proofs::Walking::none_waits))]
+#[tactic(auto, using(crate::proofs::Logged::logs_stay, crate::proofs::Walking::begun, crate::proofs::Walking::further, crate::proofs::Walking::cut_off, crate::proofs::Walking::cut_first, crate::proofs::Walking::all_counted, crate::proofs::Walking::too_many, crate::proofs::Walking::next_name, crate::proofs::Walking::some_wait, crate::proofs::Walking::none_waits))]
 fn answer_all<F: Files, O: Write, E: Write>(
     alloc: Global,
     files: &mut F,
@@ -289,7 +291,7 @@ fn answer_all<F: Files, O: Write, E: Write>(
     err: &mut E,
 ) -> Result<Counts, u8>
     requires states { 0 < wanted.states }
-    requires logs { waiting.are_named logs.now ≡ wishes.are_compared (wishes.wishes wanted) }
+    requires logs { comparing.AreLogs (F.held files.old) (wishes.wishes wanted) (comparing.logged logs.now) }
     ensures counts { IfOk result (line.AreCounted (F.held files.old) (wishes.wishes wanted.entry) (texts names.now) (O.contents out.old) (O.contents out.new)) }
     ensures cut { IfErr result (line.AreCut (F.held files.old) (wishes.wishes wanted.entry) (texts names.now) (O.contents out.old) (O.contents out.new)) }
     ensures stays { F.held files.new ≡ F.held files.old }

@@ -97,7 +97,15 @@ fn search_model(
 {
     let Program { image, config } = program;
     let mut found = explore_architecture(
-        alloc, image, *config, addresses, window, exploring, &Unwatched,
+        alloc,
+        image,
+        *config,
+        addresses,
+        window,
+        exploring,
+        &Unwatched,
+        &Throughout,
+        &Throughout,
     )?;
     let outcomes = mem::replace(&mut found.outcomes, Vec::new(alloc));
     Ok(Findings {

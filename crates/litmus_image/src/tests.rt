@@ -96,6 +96,34 @@ fn a_loop_and_a_jump_have_the_assemblers_words(rt: HostRuntime) -> Result<(), Fa
     Ok(())
 }
 
+/// Three harts: x31 has a number of the second's and is put out, and so are x10, x17 and x9 of the third.
+const THREE: [u32; 48] = [
+    0x00100f93, 0x03f50c63, 0x00200f93, 0x07f50663, 0x80001337, 0x00000513, 0x00000593, 0x00000f93,
+    0x00032283, 0x00100893, 0x00028513, 0x00000073, 0x00000513, 0x00000893, 0x00000073, 0x00200293,
+    0x80001337, 0x04030313, 0x00000513, 0x00000593, 0x00900f93, 0x065323af, 0x00100893, 0x00038513,
+    0x00000073, 0x000f8513, 0x00000073, 0x00000513, 0x00000893, 0x00000073, 0x00300293, 0x80001337,
+    0x04030313, 0x00000513, 0x00000593, 0x00000f93, 0x100324af, 0x1853252f, 0x00088093, 0x00100893,
+    0x00000073, 0x00008513, 0x00000073, 0x00048513, 0x00000073, 0x00000513, 0x00000893, 0x00000073,
+];
+
+#[test]
+fn three_harts_with_atomics_have_the_assemblers_words(rt: HostRuntime) -> Result<(), Fail> {
+    let alloc = rt.alloc();
+    let (x, y) = (0x8000_1000, 0x8000_1040);
+    let load = column(alloc, &[b"lw x5,0(x6)"])?;
+    let add = column(alloc, &[b"amoadd.w.aqrl x7,x5,(x6)"])?;
+    let pair = column(alloc, &[b"lr.w x9,(x6)", b"sc.w x10,x5,(x6)"])?;
+    let mut parts = Vec::new(alloc);
+    parts.push(part(load, &[(6, x)], &[5]))?;
+    parts.push(part(add, &[(5, 2), (6, y), (31, 9)], &[31, 7]))?;
+    parts.push(part(pair, &[(5, 3), (6, y)], &[9, 10, 17]))?;
+    let words = words_of(alloc, &parts, &[0, 7])?;
+    assert!(rt; words.starts_with(&THREE));
+    assert_eq!(rt; words.get(48).copied(), Some(0));
+    assert_eq!(rt; words.get(CODE_WORDS + LINE_WORDS).copied(), Some(7));
+    Ok(())
+}
+
 #[test]
 fn faults_name_their_line(rt: HostRuntime) -> Result<(), Fail> {
     let alloc = rt.alloc();

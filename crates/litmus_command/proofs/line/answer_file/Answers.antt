@@ -1,0 +1,12 @@
+use Rattle.std.proofs.Common.{List, subst, ℕ}
+use Rattle.litmus_command.specs.Answers.{AnswersTest}
+use Rattle.litmus_command.specs.Wishes.{wishes}
+use Rattle.litmus_command.proofs.Ends.{answered}
+use Rattle.litmus_command.proofs.line.answer_file.Goals as goal
+
+pub returns-in-Ok-answer_to-clause-end : goal.returns-in-Ok-answer_to-clause-end
+returns-in-Ok-answer_to-clause-end g c =
+    let reply = c.in-Ok-answer_to.reply in
+    let answer = subst (λ (bytes : List ℕ). AnswersTest bytes (wishes c.args.wanted) reply.text.items reply.is_proved) c.deref.ensures.value c.in-Ok-answer_to.ensures.answers in
+    answered (g.F.Files.held c.args.files.now) (wishes c.args.wanted) c.args.name.now c.args.logs.now c.in-Ok.bytes.items reply.text.items reply.is_proved (g.O.Write.contents c.args.out.now) (g.O.Write.contents c.print.new.out) c.print.result
+    c.requires.logs c.in-Ok.ensures.bytes answer c.print.ensures
