@@ -1,5 +1,5 @@
 -- Each witness's outcome is told.
-use Rattle.std.proofs.Common.{◌≡◌, ◌∙◌, ◌+◌, ◌<◌, ◌⊎◌, ⊎_elim, inl, inr, ℕ, zero, suc, Bool, true, List, [], ◌∷◌, ◌++◌, Contains, IsPermutation, Option, Some, ap, arith, le_of_suc-le-suc, length, map, refl, subst, sym}
+use Rattle.std.proofs.Common.{◌≡◌, ◌∙◌, ◌+◌, ◌<◌, ◌⊎◌, ⊎_elim, inl, inr, ℕ, zero, suc, Bool, true, List, [], ◌∷◌, ◌++◌, All, Contains, IsPermutation, Option, Some, ap, arith, le_of_suc-le-suc, length, map, refl, subst, sym}
 use Rattle.std.specs.Global.{Vec}
 use Rattle.std.specs.List.{dedup, list_any}
 use Rattle.std.specs.List.Retain.{DiffersFromLast, IsFiltered}
@@ -8,20 +8,21 @@ use Rattle.std.specs.Option.{option_to_list}
 use Rattle.std.specs.Ordering.{eq_by_cmp, on}
 use Rattle.std.proofs.lemmas.Cmp.{eq_by_cmp_equiv}
 use Rattle.std.proofs.lemmas.List.{length-map, map-append}
-use Rattle.std.proofs.lemmas.List.Elements.{Contains-append_left, Contains-append_right, Contains-push, Contains-push_cases}
+use Rattle.std.proofs.lemmas.List.Elements.{All-contains, Contains-append_left, Contains-append_right, Contains-push, Contains-push_cases}
 use Rattle.std.proofs.lemmas.List.Filters.{dedup_is}
 use Rattle.std.proofs.lemmas.List.Folds.{Any-from_list_any}
 use Rattle.std.proofs.lemmas.List.Kept.{Any-dedup}
 use Rattle.std.proofs.lemmas.List.Sorted.{Contains-permutation, IsPermutation-map}
 use Rattle.architecture_outcomes.specs.declared.outcome.Outcome.{Outcome}
-use Rattle.architecture_outcomes.specs.Outcomes.{TellEach, end_of, ends_of, of_witness, tells}
+use Rattle.architecture_outcomes.specs.Outcomes.{HasSought, TellEach, end_of, ends_of, of_witness, tells}
 use Rattle.elf_loader.specs.Image.{Initial}
 use Rattle.explorer.specs.Orders.{outcome_total, same_outcome}
 use Rattle.explorer.specs.Ranks.{outcome_cmp}
 use Rattle.performed_words.specs.Outcomes.{Outcome as End, performed_word}
+use Rattle.explorer.specs.Shown.{HartEnd}
 use Rattle.machine_types.specs.declared.config.Config.{Config}
 use Rattle.window_search.specs.WindowModelComplete.{TellsEachAllowed, ending_of}
-use Rattle.window_search.specs.Told.{endings_of}
+use Rattle.window_search.specs.Told.{TellsSought, end_with, endings_of}
 use Rattle.witnesses.specs.declared.witness.Witness.{Witness}
 use Rattle.witnesses.specs.Witnesses.{IsWitness}
 use Rattle.architecture_outcomes.proofs.Together.{Contains-map}
@@ -120,3 +121,26 @@ all_allowed image config addresses witnesses found beyond joined sorted joined_i
     (subst (λ (os : List Outcome). Contains (ends_of os) end) (sym joined_is)
     (subst (λ es. Contains es end) (sym (map-append end_of beyond found))
     (⊎_elim (λ f. Contains-append_right (ends_of beyond) (ends_of found) end f) (λ b. Contains-append_left (ends_of beyond) (ends_of found) end b) (told end (allowed t ended)))))
+
+-- ---- what is sought
+
+pub joined_there : (found beyond joined sorted : List Outcome) → joined ≡ beyond ++ found → IsPermutation joined sorted → (end : End) → Contains (ends_of found) end ⊎ Contains (ends_of beyond) end → Contains (ends_of sorted) end
+joined_there found beyond joined sorted joined_is moved end told =
+    Contains-permutation (ends_of joined) (ends_of sorted) end (IsPermutation-map end_of joined sorted moved)
+    (subst (λ (os : List Outcome). Contains (ends_of os) end) (sym joined_is)
+    (subst (λ es. Contains es end) (sym (map-append end_of beyond found))
+    (⊎_elim (λ f. Contains-append_right (ends_of beyond) (ends_of found) end f) (λ b. Contains-append_left (ends_of beyond) (ends_of found) end b) told)))
+
+-- what is sought of the machine is told
+pub machine_sought : (SeeksStops : Type 0) (IsSought Other : End → Type 0) (found beyond joined sorted : List Outcome) → joined ≡ beyond ++ found → IsPermutation joined sorted → HasSought SeeksStops IsSought (ends_of found) → HasSought SeeksStops (λ end. IsSought end ⊎ Other end) (ends_of sorted)
+machine_sought SeeksStops IsSought Other found beyond joined sorted joined_is moved (inl stops) = inl stops
+machine_sought SeeksStops IsSought Other found beyond joined sorted joined_is moved (inr (end, there, is)) = inr (end, joined_there found beyond joined sorted joined_is moved end (inl there), inl is)
+
+-- and so is what is sought of the model
+pub model_sought : (SeeksStops : Type 0) (IsSought Other : End → Type 0) (image : Initial) (config : Config) (addresses : List ℕ) (witnesses : List Witness) (found beyond joined sorted : List Outcome) → joined ≡ beyond ++ found → IsPermutation joined sorted
+    → TellEach (endings_of addresses witnesses) found beyond → All (IsWitness image config) witnesses → TellsSought Other addresses witnesses → HasSought SeeksStops (λ end. IsSought end ⊎ Other end) (ends_of sorted)
+model_sought SeeksStops IsSought Other image config addresses witnesses found beyond joined sorted joined_is moved told are (w, there, is) =
+    let end : End = end_with w.harts.items (map (performed_word w.trace.history) addresses) in
+    let is_witness : IsWitness image config w = All-contains (IsWitness image config) witnesses w are there in
+    let same : ending_of addresses w.trace.history ≡ end = ap (λ (results : List HartEnd). record { results = results; words = map (performed_word w.trace.history) addresses }) (sym is_witness.outcome) in
+    inr (end, joined_there found beyond joined sorted joined_is moved end (told end (subst (Contains (endings_of addresses witnesses)) same (Contains-map (λ (x : Witness). ending_of addresses x.trace.history) witnesses w there))), inr is)

@@ -3,6 +3,8 @@ pub mod Text
 pub mod Visited
 pub use Rattle.window_search.specs.declared.left_out.Reach.TheVariants
 pub use Rattle.window_search.specs.declared.left_out.Reach
+pub use Rattle.window_search.specs.LeftOut
+pub use Rattle.window_search.specs.Met
 pub use Rattle.window_search.specs.Openings
 pub use Rattle.explorer.specs.declared.found.Found
 pub use Rattle.explorer.specs.Ends

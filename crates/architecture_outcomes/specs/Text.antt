@@ -12,6 +12,10 @@ use Rattle.machine_types.specs.declared.model.MemoryModel.{MemoryModel}
 use Rattle.machine_types.specs.declared.model.MemoryModel.TheVariants.{Rvwmo, Ztso}
 use Rattle.state_search.specs.declared.findings.Extent.{Extent}
 use Rattle.state_search.specs.declared.findings.Extent.TheVariants as extent
+use Rattle.state_search.specs.declared.until.Ending.{Ending}
+use Rattle.state_search.specs.declared.until.Ending.TheVariants as ending
+use Rattle.text_fields.specs.Fields.{word}
+use Rattle.window_search.specs.declared.left_out.Place.{Place}
 use Rattle.window_search.specs.declared.left_out.Reach.{Reach}
 use Rattle.window_search.specs.declared.left_out.Reach.TheVariants as reach
 
@@ -45,16 +49,26 @@ outcome_lines model names number (o ∷ os) = outcome_line model names number o 
 abbrev pub rows_text : ℕ → List ℕ
 rows_text longest = codes ", rows over " ++ (decimal longest ++ codes " instructions without an access left out")
 
+-- more operations of a hart may not wait
+abbrev pub window_text : ℕ → List ℕ
+window_text window = codes ", windows over " ++ (decimal window ++ codes " left out")
+
+-- where that was met
+abbrev pub place_text : Place → List ℕ
+place_text place = codes " (hart " ++ (decimal place.hart ++ (codes " at " ++ (word place.pc ++ codes ")")))
+
 -- how far the search under the model came
 abbrev pub reach_text : Reach → ℕ → List ℕ
 reach_text reach.Whole window = codes ""
 reach_text reach.Unjudged window = codes ", some outcomes left out, as runs of over 4096 operations aren't judged"
 reach_text reach.Unclosed window = codes ", a last pass over the states found more"
-reach_text reach.WindowMet window = codes ", windows over " ++ (decimal window ++ codes " left out")
-reach_text reach.GuessMet window = codes ", some values of loads or ways of fetching on left out"
-reach_text reach.CallMet window = codes ", what a call by a loaded number allows may be left out"
-reach_text reach.RowMet window = rows_text 10000
+reach_text (reach.WindowMet place) window = window_text window ++ place_text place
+reach_text (reach.ValuesMet place) window = codes ", values of a load over 256 left out" ++ place_text place
+reach_text (reach.WaysMet place) window = codes ", ways of fetching on over 1000 left out" ++ place_text place
+reach_text (reach.CallMet place) window = codes ", what a call by a loaded number allows may be left out" ++ place_text place
+reach_text (reach.RowMet place) window = rows_text 10000 ++ place_text place
 reach_text reach.LimitMet window = codes ", limit of states met"
+reach_text (reach.Ended why) window = codes ""
 reach_text reach.OutOfMemory window = codes ", out of memory"
 
 -- how far the machine's own search came
@@ -71,8 +85,17 @@ count_text outcomes states = decimal outcomes ++ (codes " outcomes, " ++ (decima
 abbrev pub whole_line : (outcomes states : ℕ) → List ℕ
 whole_line outcomes states = codes "complete: " ++ (count_text outcomes states ++ codes "\n")
 
+abbrev pub ended_text : Ending → List ℕ
+ended_text ending.First = codes "incomplete: ended at the first, "
+ended_text ending.Time = codes "incomplete: ended by --seconds, "
+
+-- why it was ended, if it was
+abbrev pub ending_before : Reach → List ℕ
+ending_before (reach.Ended why) = ended_text why
+ending_before _ = codes "incomplete: "
+
 abbrev pub partial_line : Architecture → List ℕ
-partial_line a = codes "incomplete: " ++ (count_text (length a.outcomes.items) a.states ++ (reach_text a.reach a.window ++ (machine_text a.machine a.machine_states ++ codes "\n")))
+partial_line a = ending_before a.reach ++ (count_text (length a.outcomes.items) a.states ++ (reach_text a.reach a.window ++ (machine_text a.machine a.machine_states ++ codes "\n")))
 
 abbrev pub line_by : Reach → Extent → Architecture → List ℕ
 line_by reach.Whole extent.Complete a = whole_line (length a.outcomes.items) a.states

@@ -1,13 +1,15 @@
 //! What a memory model allows beyond what the machine comes to.
-ghost use Rattle.std.specs.Prelude.{◌≡◌, ◌≢◌, ◌≤◌, All, IfOk, IsTrue};
+ghost use Rattle.std.specs.Prelude.{◌≡◌, ◌≢◌, ◌<◌, ◌≤◌, ◌⊎◌, [], All, IfOk, IsTrue, true};
 ghost use Rattle.std.specs.List.{list_any};
 ghost use Rattle.std.specs.List.Sorted.{IsStrictlySortedBy};
 ghost use Rattle.std.specs.Ordering.{on};
 ghost use Rattle.architecture_outcomes.specs.Outcomes.{IsDecided, IsWitnessed, TellEach, TellOnce, end_of, ends_of, tells};
 ghost use Rattle.performed_words.specs.Words.{are_aligned};
 ghost use Rattle.window_search.specs.WindowModelComplete.{TellsEachAllowed};
+ghost use Rattle.window_search.specs.Met.{HasMet};
 ghost use Rattle.window_search.specs.Openings.{NeverOpens};
-ghost use Rattle.window_search.specs.Told.{endings_of};
+ghost use Rattle.window_search.specs.LeftOut.{keeps_limit};
+ghost use Rattle.window_search.specs.Told.{TellsSought, endings_of};
 ghost use Rattle.witnesses.specs.Witnesses.{IsWitness};
 ghost use Rattle.explorer.specs.Outcomes.{HasEachEnd};
 ghost use Rattle.explorer.specs.Ranks.{outcome_cmp};
@@ -17,35 +19,54 @@ use crate::outcome::Outcome;
 use elf_loader::Image;
 use machine_types::Config;
 use performed_words::words_of;
-use state_search::Watch;
+use state_search::{Ending, Extent, Watch};
 use std::alloc::{AllocError, Global};
-use window_search::{Allowed, Reach, search_growing};
+use window_search::{Allowed, Reach, Seek, search_growing};
 use witnesses::Witness;
 
-/// What a search under the memory model finds; nothing, where memory ends in it.
-pub(crate) fn search_model<W: Watch>(
+/// What a search under the memory model finds; nothing, where memory ends in it, or the machine's own search, which came so far,
+/// was ended.
+pub(crate) fn search_model<W: Watch, S: Seek>(
     alloc: Global,
     image: &Image,
     config: Config,
     addresses: &[u32],
     window: u32,
     limit: u32,
+    machine: Extent,
     watch: &W,
+    seek: &S,
 ) -> Allowed
     requires words { CanShowEach image.now addresses.now }
     ensures allowed { result.reach ≡ Reach.Whole → TellsEachAllowed image.now config addresses.now (endings_of addresses.now result.witnesses.items) }
     ensures witnessed { All (IsWitness image.now config) result.witnesses.items }
     ensures opens { result.reach ≡ Reach.Whole → result.states ≡ 0 → NeverOpens image.now config }
-    ensures bounded { result.reach ≢ Reach.LimitMet → result.reach ≢ Reach.OutOfMemory → result.states ≤ limit }
+    ensures bounded { keeps_limit result.reach ≡ true → result.states ≤ limit }
+    ensures limited { result.reach ≡ Reach.LimitMet → limit < result.states }
+    ensures met { HasMet image.now window result.reach }
+    ensures first { result.reach ≡ Reach.Ended Ending.First → (machine ≡ Extent.Ended Ending.First) ⊎ TellsSought (S.IsSought seek.now) addresses.now result.witnesses.items }
+    ensures timed { result.reach ≡ Reach.Ended Ending.Time → (machine ≡ Extent.Ended Ending.Time) ⊎ S.IsTimed seek.now }
 {
+    if let Extent::Ended(ending) = machine {
+        return nothing(alloc, Reach::Ended(ending));
+    }
     let window = window as usize;
-    match search_growing(alloc, image, config, addresses, window, limit, watch) {
+    match search_growing(alloc, image, config, addresses, window, limit, watch, seek) {
         Ok(allowed) => allowed,
-        Err(AllocError) => Allowed {
-            witnesses: Vec::new(alloc),
-            reach: Reach::OutOfMemory,
-            states: 0,
-        },
+        Err(AllocError) => nothing(alloc, Reach::OutOfMemory),
+    }
+}
+
+/// What is found by a search that came so far before its first state.
+fn nothing(alloc: Global, reach: Reach) -> Allowed
+    ensures reach { result.reach ≡ reach }
+    ensures states { result.states ≡ 0 }
+    ensures witnesses { result.witnesses.items ≡ [] }
+{
+    Allowed {
+        witnesses: Vec::new(alloc),
+        reach,
+        states: 0,
     }
 }
 

@@ -1,11 +1,13 @@
 //! The outcomes of the machine and those of the memory model, joined.
-ghost use Rattle.std.specs.Prelude.{◌≡◌, ◌≢◌, ◌<◌, ◌≤◌, All, IfOk, List, min};
+ghost use Rattle.std.specs.Prelude.{◌≡◌, ◌<◌, ◌≤◌, ◌⊎◌, All, IfOk, List, min, true};
 ghost use Rattle.std.specs.List.Sorted.{IsStrictlySortedBy};
 ghost use Rattle.std.specs.Ordering.{on};
-ghost use Rattle.architecture_outcomes.specs.Outcomes.{IsDecided, IsWitnessed, TellsEachEnd, end_of, ends_of};
+ghost use Rattle.architecture_outcomes.specs.Outcomes.{HasSought, IsDecided, IsWitnessed, TellsEachEnd, end_of, ends_of};
 ghost use Rattle.architecture_outcomes.specs.Visited.{AreMachineStates, TellsEnd};
 ghost use Rattle.witnesses.specs.Flat.{Flat};
 ghost use Rattle.window_search.specs.WindowModelComplete.{TellsEachAllowed};
+ghost use Rattle.window_search.specs.LeftOut.{keeps_limit};
+ghost use Rattle.window_search.specs.Met.{HasMet};
 ghost use Rattle.window_search.specs.Openings.{NeverOpens};
 ghost use Rattle.explorer.specs.Ranks.{outcome_cmp};
 ghost use Rattle.performed_words.specs.Words.{CanShowEach};
@@ -16,10 +18,10 @@ use crate::machine::{Machine, search_machine};
 use elf_loader::Image;
 use explorer::Exploring;
 use machine_types::Config;
-use state_search::{Extent, Watch};
+use state_search::{Ending, Extent, Watch};
 use std::alloc::{AllocError, Global};
 use window_search::window_machine::WIDEST;
-use window_search::{Allowed, Reach};
+use window_search::{Allowed, Reach, Seek};
 
 /// Tells of a search behind another one what both found.
 #[derive(Drop)]
@@ -49,10 +51,10 @@ impl<W: Watch> Watch for Behind<'_, W> {
 
 /// Finds the outcomes that the machine comes to, and searches for those that its memory model allows, with at most
 /// `window` operations of a hart waiting at a time (64 where that is more), each until it has found as many states as
-/// the limit, or memory ends. Meanwhile `watch` is told how far they are. An outcome shows the words of memory
+/// the limit, `machine` or `model` ends it, or memory does; the second isn't made where the first is ended. Meanwhile `watch` is told how far they are. An outcome shows the words of memory
 /// at these addresses, in their order, behind all operations. What was found then stands. The error is that there was no
 /// memory to begin with, or none for the list of what was found.
-pub fn explore_architecture<W: Watch>(
+pub fn explore_architecture<W: Watch, M: explorer::Seek, S: Seek>(
     alloc: Global,
     image: &Image,
     config: Config,
@@ -60,6 +62,8 @@ pub fn explore_architecture<W: Watch>(
     window: u32,
     exploring: Exploring,
     watch: &W,
+    machine: &M,
+    model: &S,
 ) -> Result<Architecture, AllocError>
     requires room { 0 < exploring.limit }
     requires words { CanShowEach image.now addresses.now }
@@ -83,7 +87,16 @@ pub fn explore_architecture<W: Watch>(
     // The search under the model finds no state only where a hart never comes from reset to an access or its end, or says
     // that it left out more.
     ensures opens { IfOk result (λ a. a.reach ≡ Reach.Whole → a.states ≡ 0 → NeverOpens image.now config) }
-    ensures bounded { IfOk result (λ a. a.reach ≢ Reach.LimitMet → a.reach ≢ Reach.OutOfMemory → a.states ≤ exploring.limit) }
+    ensures bounded { IfOk result (λ a. keeps_limit a.reach ≡ true → a.states ≤ exploring.limit) }
+    ensures limited { IfOk result (λ a. a.reach ≡ Reach.LimitMet → exploring.limit < a.states) }
+
+    // The bound that it says it met was met, and there.
+    ensures met { IfOk result (λ a. HasMet image.now a.window a.reach) }
+
+    // It ends at the first that is sought only where it tells one, or where a hart that stops is sought, and as its time is up only
+    // where it has one.
+    ensures first { IfOk result (λ a. a.reach ≡ Reach.Ended Ending.First → HasSought (M.SeeksStops machine.now) (λ end. M.IsSought machine.now end ⊎ S.IsSought model.now end) (ends_of a.outcomes.items)) }
+    ensures timed { IfOk result (λ a. a.reach ≡ Reach.Ended Ending.Time → M.IsTimed machine.now ⊎ S.IsTimed model.now) }
 
     // No outcome is told twice.
     ensures order { IfOk result (λ a. IsStrictlySortedBy (on end_of outcome_cmp) a.outcomes.items) }
@@ -98,14 +111,16 @@ pub fn explore_architecture<W: Watch>(
         outcomes: mut found,
         extent,
         states: machine_states,
-    } = search_machine(alloc, image, config, addresses, exploring, watch)?;
+    } = search_machine(alloc, image, config, addresses, exploring, watch, machine)?;
     let behind = Behind::new(watch, machine_states, found.len());
     let limit = exploring.limit;
     let Allowed {
         witnesses,
         reach,
         states,
-    } = search_model(alloc, image, config, addresses, window, limit, &behind);
+    } = search_model(
+        alloc, image, config, addresses, window, limit, extent, &behind, model,
+    );
     let mut outcomes = beyond(
         alloc,
         image,

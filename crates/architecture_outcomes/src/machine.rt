@@ -2,7 +2,7 @@
 ghost use Rattle.std.specs.Prelude.{◌≡◌, ◌<◌, ◌≤◌, All, Contains, IfOk, List, map};
 ghost use Rattle.std.specs.List.Sorted.{IsStrictlySortedBy};
 ghost use Rattle.std.specs.Ordering.{on};
-ghost use Rattle.architecture_outcomes.specs.Outcomes.{IsMachine, IsWitnessed, end_of, ends_of, of_found};
+ghost use Rattle.architecture_outcomes.specs.Outcomes.{HasSought, IsMachine, IsWitnessed, end_of, ends_of, of_found};
 ghost use Rattle.architecture_outcomes.specs.Visited.{AreMachineStates};
 ghost use Rattle.witnesses.specs.Flat.{Flat};
 ghost use Rattle.explorer.specs.Outcomes.{HasEachEnd};
@@ -11,9 +11,9 @@ ghost use Rattle.performed_words.specs.Words.{CanShowEach};
 
 use crate::outcome::{Outcome, Way};
 use elf_loader::Image;
-use explorer::{Exploration, Exploring, Found, explore};
+use explorer::{Exploration, Exploring, Found, Seek, explore};
 use machine_types::Config;
-use state_search::{Extent, Throughout, Watch};
+use state_search::{Ending, Extent, Watch};
 use std::alloc::{AllocError, Global};
 
 /// The outcomes to which the machine comes, and how far it was searched.
@@ -25,13 +25,14 @@ pub(crate) struct Machine {
 }
 
 /// What the machine comes to, with the words of memory at these addresses.
-pub(crate) fn search_machine<W: Watch>(
+pub(crate) fn search_machine<W: Watch, S: Seek>(
     alloc: Global,
     image: &Image,
     config: Config,
     addresses: &[u32],
     exploring: Exploring,
     watch: &W,
+    seek: &S,
 ) -> Result<Machine, AllocError>
     requires room { 0 < exploring.limit }
     requires words { CanShowEach image.now addresses.now }
@@ -39,6 +40,8 @@ pub(crate) fn search_machine<W: Watch>(
     ensures machine { IfOk result (λ m. All (λ o. IsMachine o.way) m.outcomes.items) }
     ensures complete { IfOk result (λ m. m.extent ≡ Extent.Complete → HasEachEnd image.now config addresses.now (ends_of m.outcomes.items)) }
     ensures once { IfOk result (λ m. IsStrictlySortedBy (on end_of outcome_cmp) m.outcomes.items) }
+    ensures first { IfOk result (λ m. m.extent ≡ Extent.Ended Ending.First → HasSought (S.SeeksStops seek.now) (S.IsSought seek.now) (ends_of m.outcomes.items)) }
+    ensures timed { IfOk result (λ m. m.extent ≡ Extent.Ended Ending.Time → S.IsTimed seek.now) }
     ensures within { IfOk result (λ m. m.states ≤ exploring.limit) }
     ensures full { IfOk result (λ m. m.extent ≡ Extent.LimitMet → m.states ≡ exploring.limit) }
     ensures visited { IfOk result (λ m. (states : List Flat) × AreMachineStates image.now config addresses.now m.extent m.states (Contains (ends_of m.outcomes.items)) states) }
@@ -48,15 +51,7 @@ pub(crate) fn search_machine<W: Watch>(
         extent,
         states,
         ..
-    } = explore(
-        alloc,
-        image,
-        config,
-        addresses,
-        exploring,
-        watch,
-        &Throughout,
-    )?;
+    } = explore(alloc, image, config, addresses, exploring, watch, seek)?;
     Ok(Machine {
         outcomes: of_machine(alloc, outcomes)?,
         extent,

@@ -10,10 +10,11 @@ use exploration_text::{WordName, end_text};
 use explorer::Realisation;
 use itoa::Buffer;
 use machine_types::MemoryModel;
-use state_search::Extent;
+use state_search::{Ending, Extent};
 use std::alloc::{AllocError, Global};
-use window_search::Reach;
+use text_fields::word_text;
 use window_search::window_machine::LONGEST_ROW;
+use window_search::{Place, Reach};
 
 fn spell_number(into: &mut Vec<u8>, number: u64) -> Result<(), AllocError>
     ensures { OnOk result (into.new.items ≡ into.old.items ++ decimal number) }
@@ -109,6 +110,35 @@ fn spell_rows(into: &mut Vec<u8>, longest: u32) -> Result<(), AllocError>
     Ok(())
 }
 
+/// Where a bound was met.
+fn spell_place(into: &mut Vec<u8>, place: Place) -> Result<(), AllocError>
+    ensures { OnOk result (into.new.items ≡ into.old.items ++ text.place_text place) }
+{
+    into.extend_from_slice(b" (hart ")?;
+    spell_number(into, u64::from(place.hart))?;
+    into.extend_from_slice(b" at ")?;
+    into.extend_from_slice(&word_text(place.pc))?;
+    into.extend_from_slice(b")")?;
+    Ok(())
+}
+
+/// What a bound left out that was met there.
+fn spell_bound(into: &mut Vec<u8>, bound: &[u8], place: Place) -> Result<(), AllocError>
+    ensures { OnOk result (into.new.items ≡ into.old.items ++ (bound.now ++ text.place_text place)) }
+{
+    into.extend_from_slice(bound)?;
+    spell_place(into, place)
+}
+
+fn spell_window(into: &mut Vec<u8>, window: u32) -> Result<(), AllocError>
+    ensures { OnOk result (into.new.items ≡ into.old.items ++ text.window_text window) }
+{
+    into.extend_from_slice(b", windows over ")?;
+    spell_number(into, u64::from(window))?;
+    into.extend_from_slice(b" left out")?;
+    Ok(())
+}
+
 fn spell_reach(into: &mut Vec<u8>, reach: Reach, window: u32) -> Result<(), AllocError>
     ensures { OnOk result (into.new.items ≡ into.old.items ++ text.reach_text reach window) }
 {
@@ -122,19 +152,26 @@ fn spell_reach(into: &mut Vec<u8>, reach: Reach, window: u32) -> Result<(), Allo
         Reach::Unclosed => {
             into.extend_from_slice(b", a last pass over the states found more")?;
         }
-        Reach::WindowMet => {
-            into.extend_from_slice(b", windows over ")?;
-            spell_number(into, u64::from(window))?;
-            into.extend_from_slice(b" left out")?;
+        Reach::WindowMet(place) => {
+            spell_window(into, window)?;
+            spell_place(into, place)?;
         }
-        Reach::GuessMet => {
-            into.extend_from_slice(b", some values of loads or ways of fetching on left out")?;
+        Reach::ValuesMet(place) => {
+            spell_bound(into, b", values of a load over 256 left out", place)?;
         }
-        Reach::CallMet => {
-            into.extend_from_slice(b", what a call by a loaded number allows may be left out")?;
+        Reach::WaysMet(place) => {
+            spell_bound(into, b", ways of fetching on over 1000 left out", place)?;
         }
-        Reach::RowMet => spell_rows(into, LONGEST_ROW)?,
+        Reach::CallMet(place) => {
+            let bound = b", what a call by a loaded number allows may be left out";
+            spell_bound(into, bound, place)?;
+        }
+        Reach::RowMet(place) => {
+            spell_rows(into, LONGEST_ROW)?;
+            spell_place(into, place)?;
+        }
         Reach::LimitMet => into.extend_from_slice(b", limit of states met")?,
+        Reach::Ended(_) => {}
         Reach::OutOfMemory => into.extend_from_slice(b", out of memory")?,
     }
     Ok(())
@@ -177,10 +214,31 @@ fn spell_whole(into: &mut Vec<u8>, found: &Architecture) -> Result<(), AllocErro
     Ok(())
 }
 
+fn spell_ended(into: &mut Vec<u8>, ending: Ending) -> Result<(), AllocError>
+    ensures { OnOk result (into.new.items ≡ into.old.items ++ text.ended_text ending) }
+{
+    match ending {
+        Ending::First => into.extend_from_slice(b"incomplete: ended at the first, ")?,
+        Ending::Time => into.extend_from_slice(b"incomplete: ended by --seconds, ")?,
+    }
+    Ok(())
+}
+
+/// How the last line begins: why the search was ended, if it was.
+fn spell_ending(into: &mut Vec<u8>, reach: Reach) -> Result<(), AllocError>
+    ensures { OnOk result (into.new.items ≡ into.old.items ++ text.ending_before reach) }
+{
+    match reach {
+        Reach::Ended(ending) => spell_ended(into, ending)?,
+        _ => into.extend_from_slice(b"incomplete: ")?,
+    }
+    Ok(())
+}
+
 fn spell_partial(into: &mut Vec<u8>, found: &Architecture) -> Result<(), AllocError>
     ensures { OnOk result (into.new.items ≡ into.old.items ++ text.partial_line found.now) }
 {
-    into.extend_from_slice(b"incomplete: ")?;
+    spell_ending(into, found.reach)?;
     spell_counts(into, found.outcomes.len(), found.states)?;
     spell_reach(into, found.reach, found.window)?;
     spell_machine(into, found.machine, found.machine_states)?;

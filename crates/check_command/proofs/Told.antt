@@ -1,5 +1,5 @@
 -- Which faults a check hands up.
-use Rattle.std.proofs.Common.{◌≡◌, ◌≢◌, ◌∙◌, ◌⊎◌, ◌↔◌, ℕ, List, Some, inl, inr, refl, subst, sym}
+use Rattle.std.proofs.Common.{Bool, ◌≡◌, ◌≢◌, ◌∙◌, ◌⊎◌, ◌↔◌, ℕ, List, Some, inl, inr, refl, subst, sym}
 use Rattle.command_files.specs.Contents.{Contents, HoldsBytes}
 use Rattle.command_files.specs.Faults.{IsTextFault, Name}
 use Rattle.check_command.specs.Checking.{IsCheckFault}
@@ -35,25 +35,25 @@ of_trace held name Mismatch is = absurd is
 of_trace held name BadEvent is = absurd is
 of_trace held name Configuration is = absurd is
 
-pub of_log : (held : Contents) (name : Name) (fault : Fault) → IsTextFault held name fault → IsLogFault held name fault
-of_log held name (CannotRead file) is = is
-of_log held name OutOfMemory is = tt
-of_log held name (Image file error) is = absurd is
-of_log held name (Text file error) is = (is.0, inl is.1)
-of_log held name (CannotMake file) is = absurd is
-of_log held name CannotWrite is = absurd is
-of_log held name (Event file line error) is = absurd is
-of_log held name (BytesAfterTrace file) is = absurd is
-of_log held name (NothingHappens file line outcome) is = absurd is
-of_log held name (Check file error) is = absurd is
-of_log held name (OtherImage file address) is = absurd is
-of_log held name (TooManyRows file) is = absurd is
-of_log held name (BadAddress word) is = absurd is
-of_log held name (CannotShow word cause) is = absurd is
-of_log held name NoThread is = absurd is
-of_log held name Mismatch is = absurd is
-of_log held name BadEvent is = absurd is
-of_log held name Configuration is = absurd is
+pub of_log : (held : Contents) (skip : Bool) (name : Name) (fault : Fault) → IsTextFault held name fault → IsLogFault held skip name fault
+of_log held skip name (CannotRead file) is = is
+of_log held skip name OutOfMemory is = tt
+of_log held skip name (Image file error) is = absurd is
+of_log held skip name (Text file error) is = (is.0, inl is.1)
+of_log held skip name (CannotMake file) is = absurd is
+of_log held skip name CannotWrite is = absurd is
+of_log held skip name (Event file line error) is = absurd is
+of_log held skip name (BytesAfterTrace file) is = absurd is
+of_log held skip name (NothingHappens file line outcome) is = absurd is
+of_log held skip name (Check file error) is = absurd is
+of_log held skip name (OtherImage file address) is = absurd is
+of_log held skip name (TooManyRows file) is = absurd is
+of_log held skip name (BadAddress word) is = absurd is
+of_log held skip name (CannotShow word cause) is = absurd is
+of_log held skip name NoThread is = absurd is
+of_log held skip name Mismatch is = absurd is
+of_log held skip name BadEvent is = absurd is
+of_log held skip name Configuration is = absurd is
 
 -- all of the file is the text of the trace that was read
 pub trace_held : (held : Contents) (name bytes read : List ℕ) (t : History) → HoldsBytes held name bytes → read ≡ bytes → IsTrace t × (read ≡ text t) → HoldsTrace held name t

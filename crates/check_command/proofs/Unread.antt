@@ -1,8 +1,8 @@
 -- Bytes that aren't read as a trace begin with none, and bytes behind one are told of.
-use Rattle.std.proofs.Common.{◌≡◌, ◌∙◌, ◌<◌, ◌≤◌, ◌-◌, ◌⊎◌, ◌↔◌, ◌++◌, ℕ, IfSome, List, None, Option, Some, ap, arith, drop, inl, inr, length, refl, subst, sym, take}
+use Rattle.std.proofs.Common.{◌≡◌, Bool, ◌∙◌, ◌<◌, ◌≤◌, ◌-◌, ◌⊎◌, ◌↔◌, ◌++◌, ℕ, IfSome, List, None, Option, Some, ap, arith, drop, inl, inr, length, refl, subst, sym, take}
 use Rattle.std.proofs.lemmas.List.{length-drop, take-append-drop, take_all}
 use Rattle.check_command.specs.Checking.{GoOnBehindATrace, IsCheckFault, IsNoTraceText, IsTraceFault}
-use Rattle.check_command.specs.Messages.{IsLogFault, text_meant}
+use Rattle.check_command.specs.Messages.{IsLogFault, IsMeantFault, at_source, sourced, text_meant}
 use Rattle.command_files.specs.Faults.{Name}
 use Rattle.command_files.specs.Contents.{Contents, HoldsBytes}
 use Rattle.command_files.specs.declared.fault.Fault.{Fault}
@@ -47,12 +47,26 @@ module _ (held : Contents) (name : Name) (bytes : List ℕ) (holds : HoldsBytes 
   check_told read fault same (inr (inr at)) = subst (IsCheckFault held name) (sym at) tt
 
   -- and of a check of messages
-  pub log_told : (read : List ℕ) (fault : Fault) → read ≡ text_meant bytes → IsTraceFault read name fault → IsLogFault held name fault
-  log_told read fault same (inl (error, at, none)) =
-      subst (IsLogFault held name) (sym at) (refl, inr (of_file (held name.now) bytes (λ known. IsNoTraceText (text_meant known) error) holds (subst (λ known. IsNoTraceText known error) same none)))
-  log_told read fault same (inr (inl (at, more))) =
-      subst (IsLogFault held name) (sym at) (refl, of_file (held name.now) bytes (λ known. GoOnBehindATrace (text_meant known)) holds (subst GoOnBehindATrace same more))
-  log_told read fault same (inr (inr at)) = subst (IsLogFault held name) (sym at) tt
+  pub log_told : (skip : Bool) (source : List ℕ) (fault : Fault) → source ≡ bytes → IsMeantFault skip source name fault → IsLogFault held skip name fault
+  log_told skip source fault same (inl (error, at, none)) =
+      subst (IsLogFault held skip name) (sym at) (refl, inr (of_file (held name.now) bytes NoLogAt holds (subst NoLogAt same (error, refl, none))))
+    where
+      NoLogAt : List ℕ → Type 0
+      NoLogAt known = (there : TextError) × (at_source skip source error ≡ at_source skip known there) × IsNoTraceText (text_meant skip known) there
+  log_told skip source fault same (inr (inl (at, more))) =
+      subst (IsLogFault held skip name) (sym at) (refl, of_file (held name.now) bytes (λ known. GoOnBehindATrace (text_meant skip known)) holds (subst (λ known. GoOnBehindATrace (text_meant skip known)) same more))
+  log_told skip source fault same (inr (inr at)) = subst (IsLogFault held skip name) (sym at) tt
+
+-- a fault of what is meant is told at its line of the file
+pub meant_told : (skip : Bool) (source text : List ℕ) (name : Name) (fault told : Fault) → text ≡ text_meant skip source → told ≡ sourced skip source fault → IsTraceFault text name fault → IsMeantFault skip source name told
+meant_told skip source text name fault told is same (inl (error, at, none)) = inl (error, same ∙ ap (sourced skip source) at, subst (λ t. IsNoTraceText t error) is none)
+meant_told skip source text name fault told is same (inr (inl (at, more))) = inr (inl (same ∙ ap (sourced skip source) at, subst GoOnBehindATrace is more))
+meant_told skip source text name fault told is same (inr (inr at)) = inr (inr (same ∙ ap (sourced skip source) at))
+
+pub meant_is_not_write : (skip : Bool) (source : List ℕ) (name : Name) (fault : Fault) → IsMeantFault skip source name fault → fault ≡ CannotWrite → ⊥
+meant_is_not_write skip source name fault (inl (error, at, none)) write = let bad : Text name (at_source skip source error) ≡ CannotWrite = sym at ∙ write in cc
+meant_is_not_write skip source name fault (inr (inl (at, more))) write = let bad : BytesAfterTrace name ≡ CannotWrite = sym at ∙ write in cc
+meant_is_not_write skip source name fault (inr (inr at)) write = let bad : OutOfMemory ≡ CannotWrite = sym at ∙ write in cc
 
 pub trace_is_not_write : (bytes : List ℕ) (name : Name) (fault : Fault) → IsTraceFault bytes name fault → fault ≡ CannotWrite → ⊥
 trace_is_not_write bytes name fault (inl (error, at, none)) write = let bad : Text name error ≡ CannotWrite = sym at ∙ write in cc

@@ -6,5 +6,5 @@ mod messages;
 mod reading;
 
 pub use checking::{check_file, remark_unjudged};
-pub use messages::check_messages;
+pub use messages::{MessageCheck, check_messages};
 pub use reading::whole_trace;

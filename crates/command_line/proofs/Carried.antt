@@ -3,19 +3,19 @@ use Rattle.std.proofs.Common.{◌≡◌, ◌≢◌, ℕ, Bool, Err, IfErr, IfOk,
 use Rattle.std.specs.Prelude.{nat_lt}
 use Rattle.clap.specs.Words.{Text}
 use Rattle.command_files.specs.Contents.{Contents}
-use Rattle.command_files.specs.Faults.{LeavesAtFault}
 use Rattle.command_files.specs.Status.{status_of}
 use Rattle.command_files.specs.declared.fault.Fault.{Fault}
 use Rattle.command_line.proofs.Meant.{beyond_explore, beyond_fences, beyond_show, written}
 use Rattle.command_line.specs.Running.{Came, CheckCame, CheckNoted, ExploreCame, IsOutOfRange, IsDone, IsExploreFile, IsFaulty, IsNoted, IsWritten, ShowCame}
 use Rattle.command_settings.specs.declared.wanted.Check.{Check as Judging}
 use Rattle.command_settings.specs.declared.wanted.Explore.{Explore as Sought}
-use Rattle.command_settings.specs.declared.wanted.Fences.{Fences as Audited}
+use Rattle.command_settings.specs.declared.wanted.Audit.{Audit}
 use Rattle.command_settings.specs.declared.wanted.Settings.{Settings}
 use Rattle.command_settings.specs.declared.wanted.Show.{Show as Shown}
 use Rattle.command_settings.specs.declared.wanted.Settings.TheVariants.{Check, Explore, Fences, Show}
 use Rattle.command_line.specs.Telling.{ComesBeforeFiles, IsFaultOfCommand, IsShowingFault}
 use Rattle.fences_command.specs.Fencing.{IsAuditTold, IsFencesFault}
+use Rattle.fences_command.specs.Keeping.{IsProgramFile}
 use Rattle.explore_command.specs.Exploring.{IsExploreFault, LeavesPart}
 use Rattle.explore_command.specs.Keeping.{SparesOthers}
 use Rattle.command_files.specs.declared.allowing.Judgement.{Judgement}
@@ -38,10 +38,10 @@ module _ (held left : Contents) (old new : Option (List ℕ)) (wanted : Settings
   show_came show (Ok NotAllowed) is so = subst (IsFaulty held left old new) (sym is) so
   show_came show (Err fault) is so = tt
 
-  pub fences_came : (fences : Audited) (r : Result Judgement Fault) → wanted ≡ Fences fences → IfOk r (λ judgement. IsAuditTold held fences judgement old new) → IfOk r (Came held left old new wanted)
-  fences_came fences (Ok Allowed) is so = subst (IsDone held left old new) (sym is) so
-  fences_came fences (Ok NotAllowed) is so = subst (IsFaulty held left old new) (sym is) so
-  fences_came fences (Err fault) is so = tt
+  pub fences_came : (audit : Audit) (r : Result Judgement Fault) → wanted ≡ Fences audit → IfOk r (λ judgement. IsAuditTold held left audit judgement old new) → IfOk r (Came held left old new wanted)
+  fences_came audit (Ok Allowed) is so = subst (IsDone held left old new) (sym is) so
+  fences_came audit (Ok NotAllowed) is so = subst (IsFaulty held left old new) (sym is) so
+  fences_came audit (Err fault) is so = tt
 
   pub check_came : (check : Judging) (r : Result Judgement Fault) → wanted ≡ Check check → IfOk r (λ judgement. CheckCame judgement check.messages held check old new) → IfOk r (Came held left old new wanted)
   check_came check (Ok Allowed) is so = subst (IsDone held left old new) (sym is) so
@@ -104,14 +104,17 @@ pub check_beyond : (old new : Option (List ℕ)) (wanted : Settings) (r : Result
 check_beyond old new wanted (Ok judgement) never = tt
 check_beyond old new wanted (Err fault) never = λ two. absurd (never two)
 
-pub fences_beyond : (held : Contents) (old new : Option (List ℕ)) (wanted : Settings) (fences : Audited) (broken : Type 0) (r : Result Judgement Fault) → wanted ≡ Fences fences → IfErr r (IsFencesFault held fences)
-    → IfErr r (λ fault. LeavesAtFault fault old new broken) → IfErr r (λ fault. status_of fault ≡ 2 → IsOutOfRange wanted × (new ≡ old))
-fences_beyond held old new wanted fences broken (Ok judgement) is told leaves = tt
-fences_beyond held old new wanted fences broken (Err fault) is told leaves = λ two.
-    let it = beyond_fences held old new fences broken fault told leaves two in (subst IsOutOfRange (sym is) it.0, it.1)
+pub fences_written : (held left : Contents) (wanted : Settings) (audit : Audit) → wanted ≡ Fences audit → SparesOthers (IsProgramFile audit.fences.write) held left → (name : Text) → left name ≢ held name → IsWritten name wanted
+fences_written held left wanted audit is spares = λ name changed. subst (IsWritten name) (sym is) (written held left _ spares name changed)
+
+pub fences_beyond : (held : Contents) (old new : Option (List ℕ)) (wanted : Settings) (audit : Audit) (Has : (List ℕ → Type 0) → Type 0) (r : Result Judgement Fault) → wanted ≡ Fences audit → IfErr r (IsFencesFault held audit)
+    → IfErr r (λ fault. LeavesPart fault old new Has) → IfErr r (λ fault. status_of fault ≡ 2 → IsOutOfRange wanted × (new ≡ old))
+fences_beyond held old new wanted audit Has (Ok judgement) is told leaves = tt
+fences_beyond held old new wanted audit Has (Err fault) is told leaves = λ two.
+    let it = beyond_fences held old new audit Has fault told leaves two in (subst IsOutOfRange (sym is) it.0, it.1)
 
 -- an audit puts nothing on standard error
-pub fences_noted : (held left : Contents) (old new before after : Option (List ℕ)) (wanted : Settings) (fences : Audited) (r : Result Judgement Fault) → wanted ≡ Fences fences → after ≡ before
+pub fences_noted : (held left : Contents) (old new before after : Option (List ℕ)) (wanted : Settings) (audit : Audit) (r : Result Judgement Fault) → wanted ≡ Fences audit → after ≡ before
     → IfOk r (λ judgement. IsNoted held left old new before after judgement wanted)
-fences_noted held left old new before after wanted fences (Ok judgement) is same = subst (IsNoted held left old new before after judgement) (sym is) same
-fences_noted held left old new before after wanted fences (Err fault) is same = tt
+fences_noted held left old new before after wanted audit (Ok judgement) is same = subst (IsNoted held left old new before after judgement) (sym is) same
+fences_noted held left old new before after wanted audit (Err fault) is same = tt

@@ -17,7 +17,7 @@ use Rattle.command_line.specs.Running.{ExploreHas, IsHalfPrinted, IsOutOfRange, 
 use Rattle.command_line.specs.Telling.{LeavesOf, LeavesOfExplaining}
 use Rattle.command_settings.specs.declared.wanted.Check.{Check as Judging}
 use Rattle.command_settings.specs.declared.wanted.Explore.{Explore as Sought}
-use Rattle.command_settings.specs.declared.wanted.Fences.{Fences as Audited}
+use Rattle.command_settings.specs.declared.wanted.Audit.{Audit}
 use Rattle.command_settings.specs.declared.wanted.Settings.{Settings}
 use Rattle.command_settings.specs.declared.wanted.Settings.TheVariants.{Chart, Check, Explain, Explore, Fences, Page, Replay, Run, Show}
 use Rattle.command_settings.specs.declared.wanted.Show.{Show as Shown}
@@ -27,6 +27,7 @@ use Rattle.explore_command.proofs.Explored.{all_of}
 use Rattle.explore_command.proofs.Faults.{some_part}
 use Rattle.command_files.specs.declared.allowing.Judgement.{Judgement}
 use Rattle.explore_command.specs.Showing.{IsFirstOf}
+use Rattle.fences_command.specs.Fencing.{AuditHas}
 use Rattle.text_fields.specs.Writing.{Begins}
 
 -- ---- what is left
@@ -59,6 +60,9 @@ module _ (held left : Contents) (old new : Option (List ℕ)) where
   words_begin true show so = record { architecture = so.architecture; of_file = so.of_file; of_text = all_of old new _ so.of_text }
   words_begin false show so = record { exploration = so.exploration; of_file = so.of_file; of_text = all_of old new _ so.of_text }
 
+  audit_begins : (audit : Audit) → AuditHas held audit (Appends old new) → AuditHas held audit (Begins old new)
+  audit_begins audit so = record { symbols = so.symbols; allowance = so.allowance; image = so.image; of_file = so.of_file; of_text = all_of old new _ so.of_text }
+
   -- that is nothing, or no more than a beginning
   pub either_of : (wanted : Settings) (fault : Fault) → LeavesOf held left old new wanted fault → (new ≡ old) ⊎ IsHalfPrinted held left old new wanted
   either_of (Replay replay) fault so = either old new _ fault so
@@ -68,7 +72,7 @@ module _ (held left : Contents) (old new : Option (List ℕ)) where
   either_of (Show show) fault so = some_part old new (ShowHas show.explore.architecture held show) fault (words_begin show.explore.architecture show) so
   either_of (Chart chart) fault so = either old new _ fault so
   either_of (Page replay) fault so = inr (page_either held replay old new fault so)
-  either_of (Fences fences) fault so = either old new _ fault so
+  either_of (Fences audit) fault so = some_part old new (AuditHas held audit) fault (audit_begins audit) so
   either_of (Check check) fault so = either old new _ fault so
 
 -- ---- which status it has
@@ -97,10 +101,10 @@ pub explore_outside : (wanted : Settings) (explore : Sought) (r : Result Judgeme
 explore_outside wanted explore (Ok judgement) is outside = tt
 explore_outside wanted explore (Err fault) is outside = λ out. as_told fault Configuration (outside (subst IsOutOfRange is out)) refl
 
-pub fences_outside : (wanted : Settings) (fences : Audited) (r : Result Judgement Fault) → wanted ≡ Fences fences → (IsOutside fences.machine → r ≡ Err Configuration)
+pub fences_outside : (wanted : Settings) (audit : Audit) (r : Result Judgement Fault) → wanted ≡ Fences audit → (IsOutside audit.fences.machine → r ≡ Err Configuration)
     → IfErr r (λ fault. IsOutOfRange wanted → status_of fault ≡ 2)
-fences_outside wanted fences (Ok judgement) is outside = tt
-fences_outside wanted fences (Err fault) is outside = λ out. as_told fault Configuration (outside (subst IsOutOfRange is out)) refl
+fences_outside wanted audit (Ok judgement) is outside = tt
+fences_outside wanted audit (Err fault) is outside = λ out. as_told fault Configuration (outside (subst IsOutOfRange is out)) refl
 
 pub show_outside : (wanted : Settings) (show : Shown) (r : Result Judgement Fault) → wanted ≡ Show show → (IsOutside show.explore.machine → (r ≡ Err Configuration) ⊎ ShowsElsewhere show.explore.architecture show.explore)
     → (ShowsElsewhere show.explore.architecture show.explore → (word : Name) × IsFirstOf show.words.items word × (r ≡ Err (CannotShow word Elsewhere))) → IfErr r (λ fault. IsOutOfRange wanted → status_of fault ≡ 2)
@@ -126,9 +130,9 @@ pub explore_inside : (wanted : Settings) (explore : Sought) (r : Result Judgemen
 explore_inside wanted explore (Ok judgement) is outside = λ out. let bad = outside (subst IsOutOfRange is out) in cc
 explore_inside wanted explore (Err fault) is outside = tt
 
-pub fences_inside : (wanted : Settings) (fences : Audited) (r : Result Judgement Fault) → wanted ≡ Fences fences → (IsOutside fences.machine → r ≡ Err Configuration) → IfOk r (λ _. ¬ IsOutOfRange wanted)
-fences_inside wanted fences (Ok judgement) is outside = λ out. let bad = outside (subst IsOutOfRange is out) in cc
-fences_inside wanted fences (Err fault) is outside = tt
+pub fences_inside : (wanted : Settings) (audit : Audit) (r : Result Judgement Fault) → wanted ≡ Fences audit → (IsOutside audit.fences.machine → r ≡ Err Configuration) → IfOk r (λ _. ¬ IsOutOfRange wanted)
+fences_inside wanted audit (Ok judgement) is outside = λ out. let bad = outside (subst IsOutOfRange is out) in cc
+fences_inside wanted audit (Err fault) is outside = tt
 
 pub show_inside : (wanted : Settings) (show : Shown) (r : Result Judgement Fault) → wanted ≡ Show show → (IsOutside show.explore.machine → (r ≡ Err Configuration) ⊎ ShowsElsewhere show.explore.architecture show.explore)
     → (ShowsElsewhere show.explore.architecture show.explore → (word : Name) × IsFirstOf show.words.items word × (r ≡ Err (CannotShow word Elsewhere))) → IfOk r (λ _. ¬ IsOutOfRange wanted)

@@ -19,14 +19,14 @@ use Rattle.command_line.specs.Running.{MeetsSomeState, ShowsElsewhere}
 use Rattle.command_line.specs.Telling.{ComesBeforeFiles, IsShowingFault}
 use Rattle.command_settings.specs.Settings.{IsNamed}
 use Rattle.command_settings.specs.declared.wanted.Explore.{Explore as Sought}
-use Rattle.command_settings.specs.declared.wanted.Fences.{Fences as Audited}
+use Rattle.command_settings.specs.declared.wanted.Audit.{Audit}
 use Rattle.command_settings.specs.declared.wanted.Run.{Run as Asked}
 use Rattle.command_settings.specs.declared.wanted.Settings.{Settings}
 use Rattle.command_settings.specs.declared.wanted.Show.{Show as Shown}
 use Rattle.command_settings.specs.declared.wanted.Settings.TheVariants.{Chart, Check, Explain, Explore, Fences, Page, Replay, Run, Show}
 use Rattle.explore_command.specs.Exploring.{IsExploreFault, LeavesPart}
 use Rattle.explore_command.specs.Keeping.{SparesOthers}
-use Rattle.fences_command.specs.Fencing.{IsFencesFault}
+use Rattle.fences_command.specs.Fencing.{HasUnshown as LacksWord, IsFencesFault}
 use Rattle.run_command.specs.Running.{IsRunFault}
 use Rattle.explore_command.specs.Asking.{HasUnshown}
 
@@ -39,7 +39,7 @@ some_states words (Explain explain) named = tt
 some_states words (Chart chart) named = tt
 some_states words (Page replay) named = tt
 some_states words (Run run) named = tt
-some_states words (Fences fences) named = omega (arith, named.5.1.states.1)
+some_states words (Fences audit) named = omega (arith, named.5.1.fences.states.1)
 some_states words (Check check) named = tt
 
 -- a fault of status 2 tells of a machine that can't be, and leaves the output as it was
@@ -48,12 +48,6 @@ pub beyond_run : (held : Contents) (old new : Option (List ℕ)) (run : Asked) (
 beyond_run held old new run broken fault told leaves two =
     let at = only_configuration fault (λ word address. subst (IsRunFault held run) address told) (λ word cause shown. subst (IsRunFault held run) shown told) two in
     (subst (IsRunFault held run) at told, subst (λ f. LeavesAtFault f old new broken) at leaves)
-
-pub beyond_fences : (held : Contents) (old new : Option (List ℕ)) (fences : Audited) (broken : Type 0) (fault : Fault) → IsFencesFault held fences fault → LeavesAtFault fault old new broken → status_of fault ≡ 2
-    → IsOutside fences.machine × (new ≡ old)
-beyond_fences held old new fences broken fault told leaves two =
-    let at = only_configuration fault (λ word address. subst (IsFencesFault held fences) address told) (λ word cause shown. subst (IsFencesFault held fences) shown told) two in
-    (subst (IsFencesFault held fences) at told, subst (λ f. LeavesAtFault f old new broken) at leaves)
 
 pub beyond_explore : (held : Contents) (old new : Option (List ℕ)) (explore : Sought) (Has : (List ℕ → Type 0) → Type 0) (fault : Fault) → IsExploreFault held explore fault → LeavesPart fault old new Has → status_of fault ≡ 2
     → IsOutside explore.machine × (new ≡ old)
@@ -121,6 +115,19 @@ misused_so P size address shown NoThread two = cc
 misused_so P size address shown Mismatch two = cc
 misused_so P size address shown BadEvent two = cc
 
+-- an audit has one of a machine that can't be alone
+word_is_lacked : (held : Contents) (audit : Audit) (fault : Fault) → LacksWord held audit fault → status_of fault ≡ 2 → ⊥
+word_is_lacked held audit fault unshown two = elim unshown.unplaced [
+  | inl at ↦ one_is_not_two fault _ at.1 refl two
+  | inr at ↦ one_is_not_two fault _ at.3 refl two
+]
+
+pub beyond_fences : (held : Contents) (old new : Option (List ℕ)) (audit : Audit) (Has : (List ℕ → Type 0) → Type 0) (fault : Fault) → IsFencesFault held audit fault → LeavesPart fault old new Has → status_of fault ≡ 2
+    → IsOutside audit.fences.machine × (new ≡ old)
+beyond_fences held old new audit Has fault told leaves two =
+    misused_so (λ (f : Fault). IsFencesFault held audit f → LeavesPart f old new Has → status_of f ≡ 2 → IsOutside audit.fences.machine × (new ≡ old)) (λ told leaves two. (told, leaves)) (λ word told leaves two. absurd told)
+    (λ word cause told leaves two. absurd (word_is_lacked held audit (CannotShow word cause) told two)) fault two told leaves two
+
 -- it comes before any file is written
 pub misused_early : (wanted : Settings) (fault : Fault) → status_of fault ≡ 2 → ComesBeforeFiles wanted fault
 misused_early (Run run) fault two = misused_so (ComesBeforeFiles (Run run)) tt (λ _. tt) (λ _ _. tt) fault two
@@ -130,7 +137,7 @@ misused_early (Replay replay) fault two = tt
 misused_early (Explain explain) fault two = tt
 misused_early (Chart chart) fault two = tt
 misused_early (Page replay) fault two = tt
-misused_early (Fences fences) fault two = tt
+misused_early (Fences audit) fault two = misused_so (ComesBeforeFiles (Fences audit)) tt (λ _. tt) (λ _ _. tt) fault two
 misused_early (Check check) fault two = tt
 
 -- a file that changed is one of those that are written

@@ -6,7 +6,8 @@ use Rattle.script_commands.specs.Replaying.{IsCutOff, IsReplayEndTold, IsReplaye
 use Rattle.trace_commands.specs.Pages.{IsHalfPaged, IsPaged}
 use Rattle.script_commands.specs.Waving.{AreTold, AreWavesCutOff}
 use Rattle.trace_commands.specs.Kinds.{IsHalfTold, IsTold}
-use Rattle.fences_command.specs.Fencing.{IsAuditCutOff, IsAuditTold}
+use Rattle.fences_command.specs.Fencing.{AuditHas, IsAuditTold}
+use Rattle.fences_command.specs.Keeping.{IsProgramFile}
 use Rattle.explore_command.specs.Exploring.{ExplorationHas, ExplorationRefusals, IsExplorationTold}
 use Rattle.explore_command.specs.Judging.{IsToldBy}
 use Rattle.explore_command.specs.Keeping.{IsScriptFile}
@@ -20,13 +21,18 @@ use Rattle.script_commands.specs.Addresses.{address}
 use Rattle.script_commands.specs.Charting.{IsCharted, IsPictureCutOff as IsHalfCharted}
 use Rattle.trace_commands.specs.Checking.{IsVerdictTold, IsVerdictCutOff}
 use Rattle.trace_commands.specs.Messages.{IsLogCutOff, IsLogJudged}
+use Rattle.trace_commands.specs.MessageCheck.{MessageCheck}
 use Rattle.run_command.specs.Running.{IsRun, IsRunCutOff, IsRunEndTold}
 use Rattle.command_settings.specs.Refusals.{IsFitting, IsForHelp}
 use Rattle.command_settings.specs.Settings.{AreConflicting, IsNamed, asks_tilelink}
 use Rattle.command_files.specs.Sizes.{IsOutside}
+use Rattle.command_settings.specs.declared.wanted.Breaches.{Breaches}
+use Rattle.command_settings.specs.declared.wanted.Breaches.TheVariants.{All, First}
 use Rattle.command_settings.specs.declared.wanted.Check.{Check as Judging}
 use Rattle.command_settings.specs.declared.wanted.Explain.{Explain as Telling}
 use Rattle.command_settings.specs.declared.wanted.Explore.{Explore as Seeking}
+use Rattle.command_settings.specs.declared.wanted.OtherOpcodes.{OtherOpcodes}
+use Rattle.command_settings.specs.declared.wanted.OtherOpcodes.TheVariants.{Refused, Skipped}
 use Rattle.command_settings.specs.declared.wanted.Settings.{Settings}
 use Rattle.command_settings.specs.declared.wanted.Settings.TheVariants.{Chart, Check, Explain, Explore, Fences, Page, Replay, Run, Show}
 use Rattle.command_settings.specs.declared.wanted.Show.{Show as Showing}
@@ -53,21 +59,33 @@ abbrev pub profile_of : (asks_tilelink : Bool) → Profile
 profile_of false = Machine
 profile_of true = TileLink
 
+abbrev pub tells_all : Breaches → Bool
+tells_all First = false
+tells_all All = true
+
+abbrev pub skips : OtherOpcodes → Bool
+skips Refused = false
+skips Skipped = true
+
+-- what is asked of messages
+abbrev pub message_check_of : Judging → MessageCheck
+message_check_of check = record { profile = profile_of (asks_tilelink check.profile); ended = check.ended; all = tells_all check.breaches; skip = skips check.other_opcodes }
+
 -- what a check judges is legal: the messages of the trace, or its order
 abbrev pub IsClean : (of_messages : Bool) → Contents → Judging → Option (List ℕ) → Option (List ℕ) → Type 0
-IsClean true held check old new = IsLogJudged held check.trace.now (profile_of (asks_tilelink check.profile)) check.ended Lawful old new
+IsClean true held check old new = IsLogJudged held check.trace.now (message_check_of check) Lawful old new
 IsClean false held check old new = IsVerdictTold held check.trace.now check.model Legal old new
 
 -- it is not, and what shows it was printed
 abbrev pub IsUnclean : (of_messages : Bool) → Contents → Judging → Option (List ℕ) → Option (List ℕ) → Type 0
 IsUnclean true held check old new =
-    (breach : MessageBreach) × (index : ℕ) × IsLogJudged held check.trace.now (profile_of (asks_tilelink check.profile)) check.ended (Unlawful breach index) old new
+    (breach : MessageBreach) × (index : ℕ) × IsLogJudged held check.trace.now (message_check_of check) (Unlawful breach index) old new
 IsUnclean false held check old new =
     (code : Code) × (a : OpId) × (b : OpId) × IsVerdictTold held check.trace.now check.model (Fault code a b) old new
 
 -- no more than a beginning of the verdict went out
 abbrev pub IsCheckBroken : (of_messages : Bool) → Contents → Judging → Option (List ℕ) → Option (List ℕ) → Type 0
-IsCheckBroken true held check old new = IsLogCutOff held check.trace.now (profile_of (asks_tilelink check.profile)) check.ended old new
+IsCheckBroken true held check old new = IsLogCutOff held check.trace.now (message_check_of check) old new
 IsCheckBroken false held check old new = IsVerdictCutOff held check.trace.now check.model old new
 
 abbrev pub CheckCame : Judgement → (of_messages : Bool) → Contents → Judging → Option (List ℕ) → Option (List ℕ) → Type 0
@@ -124,7 +142,7 @@ IsDone held left old new (Explore explore) = ExploreCame explore.architecture (n
 IsDone held left old new (Show show) = ShowCame show.explore.architecture Allowed held left show old new
 IsDone held left old new (Chart chart) = IsCharted held chart.replay chart.line old new
 IsDone held left old new (Page replay) = IsPaged held replay old new
-IsDone held left old new (Fences fences) = IsAuditTold held fences Allowed old new
+IsDone held left old new (Fences audit) = IsAuditTold held left audit Allowed old new
 IsDone held left old new (Check check) = IsClean check.messages held check old new
 
 -- a check puts nothing on standard error; of what it notes of messages that aren't lawful it is not said
@@ -150,7 +168,7 @@ IsNoted held left old new before after judgement (Run run) = IsRunEndTold held l
 IsNoted held left old new before after judgement (Explain explain) = after ≡ before
 IsNoted held left old new before after judgement (Chart chart) = after ≡ before
 IsNoted held left old new before after judgement (Page replay) = after ≡ before
-IsNoted held left old new before after judgement (Fences fences) = after ≡ before
+IsNoted held left old new before after judgement (Fences audit) = after ≡ before
 IsNoted held left old new before after judgement (Check check) = CheckNoted judgement check.messages before after
 IsNoted held left old new before after judgement (Explore explore) = ExploreNoted explore.architecture (nat_lt 0 explore.sample) judgement held explore old new before after
 IsNoted held left old new before after judgement (Show show) = ShowNoted show.explore.architecture judgement held show old new before after
@@ -164,7 +182,7 @@ IsFaulty held left old new (Explore explore) = ExploreCame explore.architecture 
 IsFaulty held left old new (Show show) = ShowCame show.explore.architecture NotAllowed held left show old new
 IsFaulty held left old new (Chart chart) = ⊥
 IsFaulty held left old new (Page replay) = ⊥
-IsFaulty held left old new (Fences fences) = IsAuditTold held fences NotAllowed old new
+IsFaulty held left old new (Fences audit) = IsAuditTold held left audit NotAllowed old new
 IsFaulty held left old new (Check check) = IsUnclean check.messages held check old new
 
 -- what the settings name was done, or shown not to be legal
@@ -181,7 +199,7 @@ IsHalfPrinted held left old new (Explore explore) = ExploreHas explore.architect
 IsHalfPrinted held left old new (Show show) = ShowHas show.explore.architecture held show (Begins old new)
 IsHalfPrinted held left old new (Chart chart) = IsHalfCharted held chart.replay chart.line old new
 IsHalfPrinted held left old new (Page replay) = IsHalfPaged held replay old new
-IsHalfPrinted held left old new (Fences fences) = IsAuditCutOff held fences old new
+IsHalfPrinted held left old new (Fences audit) = AuditHas held audit (Begins old new)
 IsHalfPrinted held left old new (Check check) = IsCheckBroken check.messages held check old new
 
 -- nothing was printed, or a beginning of a trace, a stream, a verdict or of what was found; or there was help to print, whatever of it went out
@@ -193,7 +211,7 @@ abbrev pub IsOutOfRange : Settings → Type 0
 IsOutOfRange (Run run) = IsOutside run.machine
 IsOutOfRange (Explore explore) = IsOutside explore.machine
 IsOutOfRange (Show show) = IsOutside show.explore.machine ⊎ ShowsElsewhere show.explore.architecture show.explore
-IsOutOfRange (Fences fences) = IsOutside fences.machine
+IsOutOfRange (Fences audit) = IsOutside audit.fences.machine
 IsOutOfRange (Chart chart) = IsSomeAnd chart.line (λ word. address word.now ≡ None)
 IsOutOfRange _ = ⊥
 
@@ -221,16 +239,17 @@ IsNotLegal words held left old new = HasInRange words (IsFaulty held left old ne
 abbrev pub MeetsSomeState : Settings → Type 0
 MeetsSomeState (Explore explore) = 0 < explore.states
 MeetsSomeState (Show show) = 0 < show.explore.states
-MeetsSomeState (Fences fences) = 0 < fences.states
+MeetsSomeState (Fences audit) = 0 < audit.fences.states
 MeetsSomeState _ = Unit {0}
 
--- the file is the journal of a run, and not its program, or shows an outcome of an exploration, or how it gets stuck
+-- the file is the journal of a run, and not its program, or shows an outcome of an exploration, or how it gets stuck, or has the program with the orderings that are enough
 abbrev pub IsWritten : Text → Settings → Type 0
 IsWritten name (Run run) = (name ≡ run.journal.now) × (name ≢ run.image.now)
 IsWritten name (Explore explore) = IsExploreFile explore.architecture explore name
 IsWritten name (Show show) = IsExploreFile show.explore.architecture show.explore name
+IsWritten name (Fences audit) = IsProgramFile audit.fences.write name
 IsWritten name _ = ⊥
 
--- no file but the journal, or the scripts and traces, of what the words name is another than before
+-- no file but the journal, the scripts and traces, or the program with other orderings, of what the words name is another than before
 abbrev pub Spares : List Text → Contents → Contents → Type 0
 Spares words held left = (name : Text) → left name ≢ held name → HasNamed words (IsWritten name)

@@ -9,14 +9,14 @@ use Rattle.command_files.specs.Faults.{IsReplayFault, LeavesAtFault}
 use Rattle.command_files.specs.Contents.{Contents}
 use Rattle.command_files.specs.Status.{status_of}
 use Rattle.command_files.specs.declared.fault.Fault.{Fault}
-use Rattle.command_line.specs.Running.{AreMisused, ExploreHas, HasNamed, ShowHas, IsHalfPrinted, strictness_of}
+use Rattle.command_line.specs.Running.{AreMisused, ExploreHas, HasNamed, ShowHas, IsHalfPrinted, skips, strictness_of}
 use Rattle.command_settings.specs.Refusals.{IsForHelp}
 use Rattle.command_settings.specs.declared.wanted.Check.{Check as Judging}
 use Rattle.command_settings.specs.declared.wanted.Explain.{Explain as Telling}
 use Rattle.command_settings.specs.declared.wanted.Settings.{Settings}
 use Rattle.command_settings.specs.declared.wanted.Settings.TheVariants.{Chart, Check, Explain, Explore, Fences, Page, Replay, Run, Show}
 use Rattle.command_settings.specs.declared.wanted.Show.{Show as Showing}
-use Rattle.fences_command.specs.Fencing.{IsFencesFault}
+use Rattle.fences_command.specs.Fencing.{AuditHas, IsFencesFault}
 use Rattle.script_commands.specs.Explaining.{LeavesOfStream}
 use Rattle.trace_commands.specs.Kinds.{IsTellingFault}
 use Rattle.trace_commands.specs.Pages.{IsPageFault, LeavesOfPage}
@@ -26,7 +26,7 @@ use Rattle.explore_command.specs.Showing.{IsShowFault}
 
 -- the messages of a trace can't be judged, or its order
 abbrev pub IsJudgingFault : (of_messages : Bool) → Contents → Judging → Fault → Type 0
-IsJudgingFault true held check = IsLogFault held check.trace
+IsJudgingFault true held check = IsLogFault held (skips check.other_opcodes) check.trace
 IsJudgingFault false held check = IsCheckFault held check.trace
 
 -- words of memory can't be shown, or what the memory model allows can't be told
@@ -53,7 +53,7 @@ IsFaultOfCommand held old new (Explore explore) = IsExploreFault held explore
 IsFaultOfCommand held old new (Show show) = IsShowingFault show.explore.architecture held show
 IsFaultOfCommand held old new (Chart chart) = IsChartFault held chart.replay chart.line
 IsFaultOfCommand held old new (Page replay) = IsPageFault held replay old new
-IsFaultOfCommand held old new (Fences fences) = IsFencesFault held fences
+IsFaultOfCommand held old new (Fences audit) = IsFencesFault held audit
 IsFaultOfCommand held old new (Check check) = IsJudgingFault check.messages held check
 
 -- each command says what its faults leave on standard output
@@ -65,14 +65,15 @@ LeavesOf held left old new (Replay replay) fault = LeavesAtFault fault old new (
 LeavesOf held left old new (Run run) fault = LeavesAtFault fault old new (IsHalfPrinted held left old new (Run run))
 LeavesOf held left old new (Chart chart) fault = LeavesAtFault fault old new (IsHalfPrinted held left old new (Chart chart))
 LeavesOf held left old new (Page replay) fault = LeavesOfPage held replay old new fault
-LeavesOf held left old new (Fences fences) fault = LeavesAtFault fault old new (IsHalfPrinted held left old new (Fences fences))
+LeavesOf held left old new (Fences audit) fault = LeavesPart fault old new (AuditHas held audit)
 LeavesOf held left old new (Check check) fault = LeavesAtFault fault old new (IsHalfPrinted held left old new (Check check))
 
--- it is told before the command writes a file: before the journal, or before scripts; the others write none
+-- it is told before the command writes a file: before the journal, before scripts, or before the program; the others write none
 abbrev pub ComesBeforeFiles : Settings → Fault → Type 0
 ComesBeforeFiles (Run run) fault = ComesBeforeJournal fault
 ComesBeforeFiles (Explore explore) fault = ComesBeforeScripts fault
 ComesBeforeFiles (Show show) fault = ComesBeforeScripts fault
+ComesBeforeFiles (Fences audit) fault = ComesBeforeScripts fault
 ComesBeforeFiles _ fault = Unit {0}
 
 -- such a fault, of this status, that left this on standard output, and files as they were where it comes before them; settings that don't go together, a machine out of limits and a word out of place have another status

@@ -7,14 +7,14 @@ ghost use Rattle.command_files.specs.Sizes.{IsOutside};
 ghost use Rattle.command_files.specs.Status.{status_of};
 ghost use Rattle.command_settings.specs.Settings.{asks_tilelink};
 ghost use Rattle.command_line.specs.Telling.{ComesBeforeFiles, IsExplainingFault, IsFaultOfCommand, IsJudgingFault, IsShowingFault, LeavesOf, LeavesOfExplaining};
-ghost use Rattle.command_line.specs.Running.{Came, CheckCame, CheckNoted, ExplainBroke, ExplainCame, ExploreCame, ExploreHas, ExploreNoted, MeetsSomeState, IsOutOfRange, IsCheckBroken, IsExploreFile, IsNoted, IsWritten, ShowCame, ShowHas, ShowNoted, ShowsElsewhere, profile_of, strictness_of};
+ghost use Rattle.command_line.specs.Running.{Came, CheckCame, CheckNoted, ExplainBroke, ExplainCame, ExploreCame, ExploreHas, ExploreNoted, MeetsSomeState, IsOutOfRange, IsCheckBroken, IsExploreFile, IsNoted, IsWritten, ShowCame, ShowHas, ShowNoted, ShowsElsewhere, message_check_of, profile_of, skips, strictness_of, tells_all};
 ghost use Rattle.explore_command.specs.Exploring.{ComesBeforeScripts, IsExploreFault, LeavesPart};
 ghost use Rattle.explore_command.specs.Keeping.{SparesOthers};
 ghost use Rattle.explore_command.specs.Showing.{IsFirstOf};
 
 use command_files::event_stream::Strictness;
 use command_files::{Fault, Files, Judgement, Unshown};
-use command_settings::{Check, Explain, Explore, Settings, Show};
+use command_settings::{Breaches, Check, Explain, Explore, OtherOpcodes, Settings, Show};
 use explore_command::{architecture_files, explore_files, sample_files, show_files};
 use fences_command::fences_files;
 use message_judge::{MessageVerdict, Profile};
@@ -26,7 +26,7 @@ use std::alloc::Global;
 use std::io::Write;
 use std::sync::Wait;
 use std::thread::Threads;
-use trace_commands::check_command::{check_file, check_messages};
+use trace_commands::check_command::{MessageCheck, check_file, check_messages};
 use trace_commands::{explain_files, page_files};
 
 /// Carries out what the words ask for. What it answers is not allowed where an order or messages aren't
@@ -81,7 +81,7 @@ pub(crate) fn carry_out<
         }
         Settings::Explore(explore) => explored(alloc, files, explore, out, err, progress),
         Settings::Show(show) => shown(alloc, files, &show, out, err, progress),
-        Settings::Fences(fences) => fences_files(alloc, files, fences, out, progress),
+        Settings::Fences(audit) => fences_files(alloc, files, &audit, out, progress),
         Settings::Check(check) => checked(alloc, files, check, out, err),
     }
 }
@@ -199,8 +199,7 @@ fn checked<'a, F: Files, O: Write, E: Write>(
             alloc,
             files,
             wanted.trace,
-            profile_of(&wanted),
-            wanted.ended,
+            message_check_of(&wanted),
             out,
             err,
         )? {
@@ -214,6 +213,36 @@ fn checked<'a, F: Files, O: Write, E: Write>(
     match check_file(alloc, files, wanted.trace, wanted.model, out)? {
         Verdict::Legal => Ok(Judgement::Allowed),
         Verdict::Fault(_, _, _) => Ok(Judgement::NotAllowed),
+    }
+}
+
+/// What is asked of messages.
+fn message_check_of(check: &Check<'_>) -> MessageCheck
+    ensures { result ≡ message_check_of check.now }
+{
+    MessageCheck {
+        profile: profile_of(check),
+        ended: check.ended,
+        all: tells_all(check.breaches),
+        skip: skips(check.other_opcodes),
+    }
+}
+
+fn tells_all(breaches: Breaches) -> bool
+    ensures { result ≡ tells_all breaches }
+{
+    match breaches {
+        Breaches::First => false,
+        Breaches::All => true,
+    }
+}
+
+fn skips(others: OtherOpcodes) -> bool
+    ensures { result ≡ skips others }
+{
+    match others {
+        OtherOpcodes::Refused => false,
+        OtherOpcodes::Skipped => true,
     }
 }
 

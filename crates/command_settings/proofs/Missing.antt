@@ -1,6 +1,7 @@
 -- What a subcommand's rows have, where they have all that it asks for.
 use Rattle.std.proofs.Common.{◌≡◌, ◌∙◌, Bool, List, None, Option, Some, ap, codes, false, subst, sym, true}
 use Rattle.std.specs.Prelude.{unwrap_or}
+use Rattle.std.proofs.lemmas.Bool.{false≢true}
 use Rattle.clap.specs.Words.{Row, Text}
 use Rattle.command_settings.specs.Settings.{IsComplete, flag_text}
 
@@ -18,3 +19,12 @@ pub flag_read : (given : Option Text) (wanted flag : Bool) → given ≡ Some (f
     → given ≡ Some (flag_text flag)
 flag_read given true flag is on off = is ∙ ap (λ f. Some (flag_text f)) (sym (on is))
 flag_read given false flag is on off = is ∙ ap (λ f. Some (flag_text f)) (sym (off is))
+
+-- what is read where the flag was given, and where it wasn't
+pub flag_on : (text : Option Text) (given flag : Bool) → text ≡ Some (flag_text given) → (text ≡ Some (codes "false") → flag ≡ false) → flag ≡ true → text ≡ Some (flag_text true)
+flag_on text true flag is off on = is
+flag_on text false flag is off on = absurd (false≢true (sym (off is) ∙ on))
+
+pub flag_off : (text : Option Text) (given flag : Bool) → text ≡ Some (flag_text given) → (text ≡ Some (codes "true") → flag ≡ true) → flag ≡ false → text ≡ Some (flag_text false)
+flag_off text false flag is on off = is
+flag_off text true flag is on off = absurd (false≢true (sym off ∙ on is))

@@ -7,17 +7,24 @@ use Rattle.std.specs.Str.Parse.{IsNumeral, digits_value, without_leading_plus}
 use Rattle.clap.specs.Values.{IsUnsignedIn}
 use Rattle.clap.specs.Words.{App, Row, Text, all_of, first_of, one_of, subcommand_of}
 use Rattle.command_settings.specs.Usage.{Argument, IsUsage, Subcommand, least_limit, least_window, most_limit, most_size, most_window, subcommands}
+use Rattle.command_settings.specs.declared.wanted.Audit.{Audit}
+use Rattle.command_settings.specs.declared.wanted.Breaches.{Breaches}
+use Rattle.command_settings.specs.declared.wanted.Breaches.TheVariants.{All, First}
 use Rattle.command_settings.specs.declared.wanted.Chart.{Chart}
 use Rattle.command_settings.specs.declared.wanted.Check.{Check}
 use Rattle.command_settings.specs.declared.wanted.Explain.{Explain}
 use Rattle.command_settings.specs.declared.wanted.Explore.{Explore}
 use Rattle.command_settings.specs.declared.wanted.Fences.{Fences}
 use Rattle.command_settings.specs.declared.wanted.MachineOptions.{MachineOptions}
+use Rattle.command_settings.specs.declared.wanted.OtherOpcodes.{OtherOpcodes}
+use Rattle.command_settings.specs.declared.wanted.OtherOpcodes.TheVariants.{Refused, Skipped}
 use Rattle.command_settings.specs.declared.wanted.Replay.{Replay}
 use Rattle.command_settings.specs.declared.wanted.Run.{Run}
 use Rattle.command_settings.specs.declared.wanted.Settings.{Settings}
 use Rattle.command_settings.specs.declared.wanted.Show.{Show}
 use Rattle.command_settings.specs.declared.wanted.Settings.TheVariants as settings
+use Rattle.command_settings.specs.declared.wanted.Subject.{Subject}
+use Rattle.command_settings.specs.declared.wanted.Subject.TheVariants.{Machine, Model}
 use Rattle.machine_types.specs.declared.model.MemoryModel.{MemoryModel}
 use Rattle.machine_types.specs.declared.model.MemoryModel.TheVariants.{Rvwmo, Ztso}
 
@@ -111,6 +118,11 @@ pub record IsExploreMeant (rows : List Row) (explore : Explore) : Type 0 where
   pub window : IsNumberIn (codes "window") least_window most_window rows explore.window
   pub image : IsText (codes "IMAGE") rows explore.image.now
 
+-- this machine is asked in place of the memory model, by the flag `--machine`
+abbrev pub is_machine : Subject → Bool
+is_machine Model = false
+is_machine Machine = true
+
 -- the arguments of `fences` have these texts, and these numbers in their ranges
 pub record IsFencesMeant (rows : List Row) (fences : Fences) : Type 0 where
   pub raw : IsFlag (codes "raw") rows fences.raw
@@ -118,13 +130,27 @@ pub record IsFencesMeant (rows : List Row) (fences : Fences) : Type 0 where
   pub states : IsNumberIn (codes "states") least_limit most_limit rows fences.states
   pub window : IsNumberIn (codes "window") least_window most_window rows fences.window
   pub allow : IsOptional (codes "allow") rows fences.allow
+  pub subject : IsFlag (codes "machine") rows (is_machine fences.subject)
+  pub write : IsOptional (codes "write") rows fences.write
   pub image : IsText (codes "IMAGE") rows fences.image.now
+
+-- every breach is to be told, by the flag `--all`
+abbrev pub are_all : Breaches → Bool
+are_all First = false
+are_all All = true
+
+-- messages of other opcodes are to be passed over, by the flag `--skip`
+abbrev pub are_skipped : OtherOpcodes → Bool
+are_skipped Refused = false
+are_skipped Skipped = true
 
 -- the arguments of `check` have these texts
 pub record IsCheckMeant (rows : List Row) (check : Check) : Type 0 where
   pub messages : IsFlag (codes "messages") rows check.messages
   pub ended : IsFlag (codes "ended") rows check.ended
   pub profile : IsOptional (codes "profile") rows check.profile
+  pub breaches : IsFlag (codes "all") rows (are_all check.breaches)
+  pub other_opcodes : IsFlag (codes "skip") rows (are_skipped check.other_opcodes)
   pub model : IsModel rows check.model
   pub trace : IsText (codes "TRACE") rows check.trace.now
 
@@ -136,7 +162,7 @@ IsMeant name rows (settings.Chart chart) = (name ≡ codes "chart") × IsChartMe
 IsMeant name rows (settings.Page replay) = (name ≡ codes "page") × IsReplayMeant rows replay
 IsMeant name rows (settings.Run run) = (name ≡ codes "run") × IsRunMeant rows run
 IsMeant name rows (settings.Explore explore) = (name ≡ codes "explore") × IsExploreMeant rows explore
-IsMeant name rows (settings.Fences fences) = (name ≡ codes "fences") × IsFencesMeant rows fences
+IsMeant name rows (settings.Fences audit) = (name ≡ codes "fences") × IsFencesMeant rows audit.fences
 IsMeant name rows (settings.Check check) = (name ≡ codes "check") × IsCheckMeant rows check
 IsMeant name rows (settings.Show show) = ⊥
 
@@ -150,6 +176,11 @@ pub record IsShowMeant (rows : List Row) (show : Show) : Type 0 where
   pub words : map (λ (word : Bor Text). word.now) show.words.items ≡ shown_in rows
   pub some : show.words.items ≢ []
 
+-- the arguments of `fences` have these texts and numbers, and these words are to be shown, if any
+pub record IsAuditMeant (rows : List Row) (audit : Audit) : Type 0 where
+  pub fences : IsFencesMeant rows audit.fences
+  pub words : map (λ (word : Bor Text). word.now) audit.words.items ≡ shown_in rows
+
 -- and the words that are to be shown are those that were given
 abbrev pub IsAsked : Text → List Row → Settings → Type 0
 IsAsked name rows (settings.Replay replay) = IsMeant name rows (settings.Replay replay)
@@ -159,7 +190,7 @@ IsAsked name rows (settings.Page replay) = IsMeant name rows (settings.Page repl
 IsAsked name rows (settings.Run run) = IsMeant name rows (settings.Run run)
 IsAsked name rows (settings.Explore explore) = IsMeant name rows (settings.Explore explore) × (shown_in rows ≡ [])
 IsAsked name rows (settings.Show show) = (name ≡ codes "explore") × IsShowMeant rows show
-IsAsked name rows (settings.Fences fences) = IsMeant name rows (settings.Fences fences)
+IsAsked name rows (settings.Fences audit) = (name ≡ codes "fences") × IsAuditMeant rows audit
 IsAsked name rows (settings.Check check) = IsMeant name rows (settings.Check check)
 
 -- ---- what doesn't go together
@@ -192,9 +223,9 @@ shortens explore = is_some explore.scripts && not explore.whole
 abbrev pub IsTwofold : Explore → Type 0
 IsTwofold explore = (explore.architecture ≡ true) × (0 < explore.sample)
 
--- a search of the machine is to end at the first of what it finds, and random runs are asked for, or what the memory model allows, which is known at the end of its search alone
+-- a search is to end at the first of what it finds, and random runs are asked for in its place
 abbrev pub IsUnsearched : Explore → Type 0
-IsUnsearched explore = (explore.first ≡ true) × ((explore.architecture ≡ true) ⊎ (0 < explore.sample))
+IsUnsearched explore = (explore.first ≡ true) × (0 < explore.sample)
 
 -- the search is to fail on states from which no schedule ends, which random runs and a search of the memory model don't look for
 abbrev pub IsBlind : Explore → Type 0
@@ -220,10 +251,18 @@ asks_tilelink (Some name) = bytes_eq name.now (codes "tilelink")
 abbrev pub HasNoRules : Check → Type 0
 HasNoRules check = IsSomeAnd check.profile (λ name. is_profile name.now ≡ false)
 
+-- what is asked of messages alone: that questions have their answers, whose rules they keep, that all breaches are told, that other opcodes are passed over
+abbrev pub asks_of_messages : Check → Bool
+asks_of_messages check = check.ended || (is_some check.profile || (are_all check.breaches || are_skipped check.other_opcodes))
+
+-- that was asked, and the messages aren't judged
+abbrev pub IsBesideMessages : Check → Type 0
+IsBesideMessages check = (check.messages ≡ false) × (asks_of_messages check ≡ true)
+
 abbrev pub AreConflicting : Settings → Type 0
 AreConflicting (settings.Explore explore) = HasConflict explore
 AreConflicting (settings.Show show) = HasConflict show.explore
-AreConflicting (settings.Check check) = HasNoRules check
+AreConflicting (settings.Check check) = IsBesideMessages check ⊎ HasNoRules check
 AreConflicting _ = ⊥
 
 -- the settings are what the words, the first of which is the program's name, say by the usage

@@ -157,7 +157,7 @@ abbrev pub explore_arguments : List Argument
 explore_arguments =
     flag (codes "raw") ∷ machine_arguments ++ search_arguments ++ sample_arguments ++ window_arguments ++ repeated (codes "show") ∷ file (codes "IMAGE") ∷ []
 
--- `[--raw]`, those of a machine, and `[--states LIMIT] [--window N] [--allow FILE] IMAGE`
+-- `[--raw]`, those of a machine, and `[--states LIMIT] [--window N] [--allow FILE] [--machine] [--write FILE] [--show ADDRESS|SYMBOL].. IMAGE`
 abbrev pub fences_arguments : List Argument
 fences_arguments =
     flag (codes "raw")
@@ -165,12 +165,23 @@ fences_arguments =
     ++ number (codes "states") (codes "4000000") least_limit most_limit
     ∷ number (codes "window") (codes "16") least_window most_window
     ∷ optional (codes "allow")
+    ∷ flag (codes "machine")
+    ∷ optional (codes "write")
+    ∷ repeated (codes "show")
     ∷ file (codes "IMAGE")
     ∷ []
 
--- `[--messages] [--ended] [--profile NAME] [--model NAME] TRACE`
+-- `[--messages] [--ended] [--profile NAME] [--all] [--skip] [--model NAME] TRACE`
 abbrev pub check_arguments : List Argument
-check_arguments = flag (codes "messages") ∷ flag (codes "ended") ∷ optional (codes "profile") ∷ model ∷ file (codes "TRACE") ∷ []
+check_arguments =
+    flag (codes "messages")
+    ∷ flag (codes "ended")
+    ∷ optional (codes "profile")
+    ∷ flag (codes "all")
+    ∷ flag (codes "skip")
+    ∷ model
+    ∷ file (codes "TRACE")
+    ∷ []
 
 -- ---- the subcommands
 

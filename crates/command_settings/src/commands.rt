@@ -153,6 +153,9 @@ fn fences_command<'a>(alloc: Global, models: &'a [&'a str]) -> Result<Command<'a
     let command = add_arg(command, states(alloc));
     let command = add_arg(command, window(alloc));
     let command = add_arg(command, allow(alloc));
+    let command = add_arg(command, machine_outcomes(alloc));
+    let command = add_arg(command, written(alloc));
+    let command = add_arg(command, show(alloc));
     add_arg(command, image(alloc))
 }
 
@@ -165,6 +168,8 @@ fn check_command<'a>(alloc: Global, models: &'a [&'a str]) -> Result<Command<'a>
     let command = add_arg(Ok(command), messages(alloc));
     let command = add_arg(command, ended(alloc));
     let command = add_arg(command, profile(alloc));
+    let command = add_arg(command, all(alloc));
+    let command = add_arg(command, skip(alloc));
     let command = add_arg(command, judged_model(alloc, models));
     add_arg(command, trace(alloc))
 }
@@ -430,6 +435,29 @@ fn show<'a>(alloc: Global) -> Arg<'a>
     repeated(alloc, "show", "ADDRESS|SYMBOL", SHOW_HELP)
 }
 
+fn machine_outcomes<'a>(alloc: Global) -> Arg<'a>
+    ensures rule { rule_of result ≡ flag_rule (codes "machine") }
+    ensures local { result.global ≡ false }
+{
+    flag(
+        alloc,
+        "machine",
+        "ask for the outcomes that this machine shows, in place of those that the memory model allows",
+    )
+}
+
+fn written<'a>(alloc: Global) -> Arg<'a>
+    ensures rule { rule_of result ≡ optional_rule (codes "write") }
+    ensures local { result.global ≡ false }
+{
+    optional(
+        alloc,
+        "write",
+        "FILE",
+        "the file to write the program into with the orderings that are enough together, or with those that were missing",
+    )
+}
+
 fn drawn_line<'a>(alloc: Global) -> Arg<'a>
     ensures rule { rule_of result ≡ optional_rule (codes "line") }
     ensures local { result.global ≡ false }
@@ -501,6 +529,28 @@ fn profile<'a>(alloc: Global) -> Arg<'a>
         "profile",
         "NAME",
         "with --messages, whose rules they have to keep: machine (all that rvtl's machine keeps, the default) or tilelink (not those by which that machine asks more than TileLink)",
+    )
+}
+
+fn all<'a>(alloc: Global) -> Arg<'a>
+    ensures rule { rule_of result ≡ flag_rule (codes "all") }
+    ensures local { result.global ≡ false }
+{
+    flag(
+        alloc,
+        "all",
+        "with --messages, tell each message that breaks a rule, up to 100, and how many there are",
+    )
+}
+
+fn skip<'a>(alloc: Global) -> Arg<'a>
+    ensures rule { rule_of result ≡ flag_rule (codes "skip") }
+    ensures local { result.global ≡ false }
+{
+    flag(
+        alloc,
+        "skip",
+        "with --messages, pass over messages of other opcodes than those below, and count them",
     )
 }
 

@@ -160,7 +160,7 @@ from which no schedule ends. The last line is
   complete: N outcomes, M states      no order that the memory model allows brings the program to another end
 or incomplete: and the limit that was met. With --sample, random runs are made and counted instead, each of
 at most 1,000,000 tried events, and the last line is sampled: RUNS runs, not complete; --architecture,
---show or --first don't go with it, nor does --first with --architecture.
+--show or --first don't go with it.
 --seed says nothing without --sample, --whole nothing without --scripts, --window nothing without --architecture,
 --states nothing with --sample.
 
@@ -185,6 +185,10 @@ that all its outcomes are in the file. Where one of the program as it is isn't, 
   missing: PC OLD -> NEW          each word that has to order more for no such outcome to come: a FENCE, an LR,
                                   SC or AMO, or a nop (addi x0, x0, 0), which may become a FENCE
 or that not all of these together are enough. None of those told can be left out.
+With --show, the final word at an address or symbol belongs to an outcome, and stands behind its harts:
+  hart 0: exit 0   hart 1: exit 0   counter = 0x00000002
+With --write, the file is the program's own but for the words told last; nothing is written where none were found.
+With --machine, --window says nothing.
 A word of data that looks like such an instruction counts as one. What is told holds of so many harts, and of
 this program's own data.
 
@@ -225,6 +229,8 @@ the first has to be performed before the second:
 With --messages the trace may end behind its M lines, and need not come from rvtl; --model says nothing then.
 It prints lawful, or with status 3 unlawful, a rule and the number of the message, from 0, that breaks it.
 Where a question has no answer by the end, a note tells; with --ended the first such question is unlawful.
+With --all each message that breaks a rule is told, up to 100, and then how many there are. With --skip
+messages of other opcodes (as Get, PutFullData, Hint) are passed over and counted; else they are refused.
 With --profile tilelink a Grant may have data where the copy is still held, and may answer NtoB with toT.
 A message is M s CHANNEL HART .. where it is sent, M t CHANNEL HART .. where it is taken, with behind it
   on A  AcquireBlock LINE NtoB, NtoT or BtoT

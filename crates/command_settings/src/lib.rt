@@ -8,6 +8,6 @@ mod wanted;
 
 pub use usage::settings;
 pub use wanted::{
-    Chart, Check, Explain, Explore, Fences, MachineOptions, Replay, Run, Settings, SettingsError,
-    Show,
+    Audit, Breaches, Chart, Check, Explain, Explore, Fences, MachineOptions, OtherOpcodes, Replay,
+    Run, Settings, SettingsError, Show, Subject,
 };

@@ -1,15 +1,15 @@
 //! How the program's words are read by its usage.
 
-ghost use Rattle.std.specs.Prelude.{ℕ, ◌≡◌, ◌≢◌, ◌<◌, ◌^◌, IfErr, IfOk, IfSome, IsNone, List, OnOk, Some, map};
+ghost use Rattle.std.specs.Prelude.{ℕ, ◌≡◌, ◌≢◌, ◌<◌, ◌^◌, Bool, codes, IfErr, IfOk, IfSome, IsNone, List, OnOk, Some, map};
 ghost use Rattle.clap.specs.Words.{Row, Text, app_of, found_of, rows_of, subcommand_rows_of};
 ghost use Rattle.command_settings.specs.Refusals.{IsFitting, IsRefused, TellsConflict};
-ghost use Rattle.command_settings.specs.Settings.{AreConflicting, HasAll, HasNumber, IsChartMeant, IsCheckMeant, IsComplete, IsExplainMeant, IsExploreMeant, IsFencesMeant, IsMachineMeant, IsMeant, IsNamed, IsNumberIn, IsReplayMeant, IsRunMeant, IsAsked, name_of, shown_in};
+ghost use Rattle.command_settings.specs.Settings.{AreConflicting, HasAll, HasNumber, IsChartMeant, IsCheckMeant, IsComplete, IsExplainMeant, IsExploreMeant, IsFencesMeant, IsFlag, IsMachineMeant, IsMeant, IsNamed, IsNumberIn, IsReplayMeant, IsRunMeant, IsAsked, are_all, are_skipped, is_machine, name_of, shown_in};
 ghost use Rattle.command_settings.specs.Usage.{IsUsage, chart_arguments, check_arguments, explain_arguments, explore_arguments, fences_arguments, machine_arguments, replay_arguments, run_arguments};
 
 use crate::commands::command;
 use crate::wanted::{
-    Chart, Check, Explain, Explore, Fences, MachineOptions, Replay, Run, Settings, SettingsError,
-    Show,
+    Audit, Breaches, Chart, Check, Explain, Explore, Fences, MachineOptions, OtherOpcodes, Replay,
+    Run, Settings, SettingsError, Show, Subject,
 };
 use clap::error::ErrorKind;
 use clap::{ArgMatches, Command};
@@ -46,7 +46,7 @@ fn settings_by<'a, S: AsStr>(
     ensures refused { IsUsage (app_of command.old) → IfErr result (IsRefused (map S.text words.entry.now)) }
 {
     let matches = command.try_get_matches_from_mut(words)?;
-    match settings_of(&matches) {
+    match settings_of(alloc, &matches) {
         Some(settings) => {
             let settings = with_shown(alloc, &matches, settings)?;
             agreeing(alloc, settings)
@@ -96,14 +96,21 @@ fn with_shown<'a>(
 ) -> Result<Settings<'a>, AllocError>
     ensures { (name : Text) → (rows : List Row) → subcommand_rows_of matches.now ≡ Some (name, rows) → IsMeant name rows settings.entry → IfOk result (IsAsked name rows) }
 {
-    let Settings::Explore(explore) = settings else {
-        return Ok(settings);
-    };
-    let words = shown_in(alloc, matches)?;
-    if words.as_slice().is_empty() {
-        return Ok(Settings::Explore(explore));
+    match settings {
+        Settings::Explore(explore) => {
+            let words = shown_in(alloc, matches)?;
+            if words.as_slice().is_empty() {
+                return Ok(Settings::Explore(explore));
+            }
+            Ok(Settings::Show(Show { explore, words }))
+        }
+        Settings::Fences(audit) => {
+            let words = shown_in(alloc, matches)?;
+            let fences = audit.fences;
+            Ok(Settings::Fences(Audit { fences, words }))
+        }
+        others => Ok(others),
     }
-    Ok(Settings::Show(Show { explore, words }))
 }
 
 /// The words of memory that are to be shown.
@@ -112,27 +119,28 @@ fn shown_in<'a>(alloc: Global, matches: &ArgMatches<'a>) -> Result<Vec<&'a str>,
         → IfOk result (λ words. map (λ word. word.now) words.items ≡ shown_in rows) }
 {
     let mut words = Vec::new(alloc);
-    let Some((_, explore)) = matches.subcommand() else {
+    let Some((_, subcommand)) = matches.subcommand() else {
         return Ok(words);
     };
-    if let Some(given) = explore.get_strs("show") {
+    if let Some(given) = subcommand.get_strs("show") {
         words.extend_from_slice(given)?;
     }
     Ok(words)
 }
 
-fn settings_of<'a>(matches: &ArgMatches<'a>) -> Option<Settings<'a>>
+/// The settings, without the words of memory that are to be shown.
+fn settings_of<'a>(alloc: Global, matches: &ArgMatches<'a>) -> Option<Settings<'a>>
     ensures meant { IfSome result (λ settings. (name : Text) × (rows : List Row)
         × (subcommand_rows_of matches.now ≡ Some (name, rows)) × (IsComplete name rows → IsMeant name rows settings)) }
     ensures missing { IsNone result → (name : Text) → (rows : List Row)
         → subcommand_rows_of matches.now ≡ Some (name, rows) → IsComplete name rows → ⊥ }
 {
     let (name, given) = matches.subcommand()?;
-    settings_named(name, given)
+    settings_named(alloc, name, given)
 }
 
 /// The settings by what was given to the subcommand of this name.
-fn settings_named<'a>(name: &str, given: &ArgMatches<'a>) -> Option<Settings<'a>>
+fn settings_named<'a>(alloc: Global, name: &str, given: &ArgMatches<'a>) -> Option<Settings<'a>>
     ensures meant { IfSome result (λ settings. IsComplete name.now (rows_of (found_of given.now))
         → IsMeant name.now (rows_of (found_of given.now)) settings) }
     ensures missing { IsNone result → IsComplete name.now (rows_of (found_of given.now)) → ⊥ }
@@ -144,7 +152,7 @@ fn settings_named<'a>(name: &str, given: &ArgMatches<'a>) -> Option<Settings<'a>
         "page" => Some(Settings::Page(replay_of(given)?)),
         "run" => Some(Settings::Run(run_of(given)?)),
         "explore" => Some(Settings::Explore(explore_of(given)?)),
-        "fences" => Some(Settings::Fences(fences_of(given)?)),
+        "fences" => Some(Settings::Fences(audit_of(alloc, given)?)),
         "check" => Some(Settings::Check(check_of(given)?)),
         _ => None,
     }
@@ -240,6 +248,17 @@ fn explore_of<'a>(matches: &ArgMatches<'a>) -> Option<Explore<'a>>
     })
 }
 
+/// An audit without words of memory.
+fn audit_of<'a>(alloc: Global, matches: &ArgMatches<'a>) -> Option<Audit<'a>>
+    ensures meant { IfSome result (λ audit. HasAll (rows_of (found_of matches.now)) fences_arguments
+        → IsFencesMeant (rows_of (found_of matches.now)) audit.fences) }
+    ensures missing { IsNone result → HasAll (rows_of (found_of matches.now)) fences_arguments → ⊥ }
+{
+    let fences = fences_of(matches)?;
+    let words = Vec::new(alloc);
+    Some(Audit { fences, words })
+}
+
 fn fences_of<'a>(matches: &ArgMatches<'a>) -> Option<Fences<'a>>
     ensures meant { IfSome result (λ fences. HasAll (rows_of (found_of matches.now)) fences_arguments
         → IsFencesMeant (rows_of (found_of matches.now)) fences) }
@@ -251,6 +270,8 @@ fn fences_of<'a>(matches: &ArgMatches<'a>) -> Option<Fences<'a>>
         states: number_of(matches, "states")?,
         window: number_of(matches, "window")?,
         allow: matches.get_str("allow"),
+        subject: subject_of(matches),
+        write: matches.get_str("write"),
         image: matches.get_str("IMAGE")?,
     })
 }
@@ -266,9 +287,44 @@ fn check_of<'a>(matches: &ArgMatches<'a>) -> Option<Check<'a>>
         messages: matches.get_flag("messages"),
         ended: matches.get_flag("ended"),
         profile: matches.get_str("profile"),
+        breaches: breaches_of(matches),
+        other_opcodes: other_opcodes_of(matches),
         model,
         trace,
     })
+}
+
+fn subject_of(matches: &ArgMatches<'_>) -> Subject
+    ensures { (given : Bool) → IsFlag (codes "machine") (rows_of (found_of matches.now)) given
+        → IsFlag (codes "machine") (rows_of (found_of matches.now)) (is_machine result) }
+{
+    if matches.get_flag("machine") {
+        Subject::Machine
+    } else {
+        Subject::Model
+    }
+}
+
+fn breaches_of(matches: &ArgMatches<'_>) -> Breaches
+    ensures { (given : Bool) → IsFlag (codes "all") (rows_of (found_of matches.now)) given
+        → IsFlag (codes "all") (rows_of (found_of matches.now)) (are_all result) }
+{
+    if matches.get_flag("all") {
+        Breaches::All
+    } else {
+        Breaches::First
+    }
+}
+
+fn other_opcodes_of(matches: &ArgMatches<'_>) -> OtherOpcodes
+    ensures { (given : Bool) → IsFlag (codes "skip") (rows_of (found_of matches.now)) given
+        → IsFlag (codes "skip") (rows_of (found_of matches.now)) (are_skipped result) }
+{
+    if matches.get_flag("skip") {
+        OtherOpcodes::Skipped
+    } else {
+        OtherOpcodes::Refused
+    }
 }
 
 fn number_of(matches: &ArgMatches<'_>, id: &str) -> Option<u32>

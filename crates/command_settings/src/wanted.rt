@@ -1,7 +1,7 @@
 //! What the words of the command line ask for.
 
-ghost use Rattle.std.specs.Prelude.{◌↔◌, ◌≡◌, IsSome, IsTrue};
-ghost use Rattle.command_settings.specs.Settings.{AreConflicting, HasConflict, HasNoRules, IsBlind, IsTwofold, IsUnknown, IsUnsearched, are_conditions, asks_tilelink, has_word, is_condition, is_profile, lists, shortens};
+ghost use Rattle.std.specs.Prelude.{◌↔◌, ◌≡◌, ◌⊎◌, IsSome, IsTrue};
+ghost use Rattle.command_settings.specs.Settings.{AreConflicting, HasConflict, HasNoRules, IsBesideMessages, IsBlind, IsTwofold, IsUnknown, IsUnsearched, are_all, are_conditions, are_skipped, asks_of_messages, asks_tilelink, has_word, is_condition, is_profile, lists, shortens};
 
 use clap::error::ErrorKind;
 use machine_types::MemoryModel;
@@ -16,9 +16,9 @@ const TWOFOLD: &str =
 const BLIND: &str =
     "neither --sample nor --architecture looks for states from which no schedule ends: leave out --fail-on stuck";
 
-/// What to do where a search is to end at its first that isn't one of the machine's states.
+/// What to do where a search is to end at its first, and there is none.
 const UNSEARCHED: &str =
-    "--first ends a search of the machine, and goes with --allow and --show: leave it out, or else --sample and --architecture";
+    "--first ends a search, and goes with --allow, --show and --architecture: leave it out, or else --sample";
 
 /// What to do where a search is to fail on what there isn't.
 const UNKNOWN: &str =
@@ -26,6 +26,10 @@ const UNKNOWN: &str =
 
 /// What to do where messages are to be judged by rules that there aren't.
 const NO_PROFILE: &str = "--profile takes machine or tilelink";
+
+/// What to do where something is asked of messages that aren't judged.
+const NO_MESSAGES: &str =
+    "--ended, --profile, --all and --skip go with --messages: leave them out, or judge the messages";
 
 /// Apply the events of the file `script` to a machine that begins with the file `image`, which has bare
 /// words where `raw` is set, and else is an ELF file.
@@ -148,11 +152,11 @@ impl Explore<'_> {
         self.fails_on("stuck") && (self.architecture || 0 < self.sample)
     }
 
-    /// Whether the first of what a search of the machine finds is asked for, and no such search.
+    /// Whether the first of what a search finds is asked for, and no search.
     fn is_unsearched(&self) -> bool
         ensures { IsTrue result ↔ IsUnsearched self.now }
     {
-        self.first && (self.architecture || 0 < self.sample)
+        self.first && 0 < self.sample
     }
 
     /// Whether the search is to fail on what there isn't.
@@ -212,6 +216,15 @@ pub struct Show<'a> {
     pub words: Vec<&'a str>,
 }
 
+/// Whose outcomes of a program are asked for.
+#[derive(Clone, Copy)]
+pub enum Subject {
+    /// Those that the memory model allows.
+    Model,
+    /// Those that this machine shows.
+    Machine,
+}
+
 /// Find out which of the orderings of the program of the file `image` it needs. The image has bare words where `raw` is
 /// set, and else is an ELF file.
 #[derive(Clone, Copy)]
@@ -224,7 +237,57 @@ pub struct Fences<'a> {
     pub window: u32,
     /// The file with the outcomes that are allowed, in place of those of the program as it is.
     pub allow: Option<&'a str>,
+    /// Whose outcomes are compared.
+    pub subject: Subject,
+    /// The file into which the program goes with the orderings that are enough.
+    pub write: Option<&'a str>,
     pub image: &'a str,
+}
+
+/// Find out which orderings a program needs, by its outcomes with words of memory.
+#[derive(Drop)]
+pub struct Audit<'a> {
+    pub fences: Fences<'a>,
+    /// The words that belong to an outcome, in the order of their asking: each an address or a symbol, as it was given.
+    pub words: Vec<&'a str>,
+}
+
+/// Which of the messages that break a rule are told.
+#[derive(Clone, Copy)]
+pub enum Breaches {
+    /// The first alone.
+    First,
+    All,
+}
+
+impl Breaches {
+    fn are_all(self) -> bool
+        ensures { result ≡ are_all self }
+    {
+        match self {
+            Breaches::First => false,
+            Breaches::All => true,
+        }
+    }
+}
+
+/// What becomes of messages whose opcode is none of TL-C's own, such as Get, Put and Hint.
+#[derive(Clone, Copy)]
+pub enum OtherOpcodes {
+    Refused,
+    /// They are passed over, and counted.
+    Skipped,
+}
+
+impl OtherOpcodes {
+    fn are_skipped(self) -> bool
+        ensures { result ≡ are_skipped self }
+    {
+        match self {
+            OtherOpcodes::Refused => false,
+            OtherOpcodes::Skipped => true,
+        }
+    }
 }
 
 /// Judge the order of the trace in the file `trace`, or its messages.
@@ -236,6 +299,10 @@ pub struct Check<'a> {
     pub ended: bool,
     /// By whose rules the messages are judged: `machine` or `tilelink`, and this machine's where none is named.
     pub profile: Option<&'a str>,
+    /// Which of the messages that break a rule are told: the first alone where nothing else is asked for.
+    pub breaches: Breaches,
+    /// What becomes of messages with other opcodes: they are refused where nothing else is asked for.
+    pub other_opcodes: OtherOpcodes,
     /// Under which the order is judged.
     pub model: MemoryModel,
     pub trace: &'a str,
@@ -252,13 +319,43 @@ impl Check<'_> {
         }
     }
 
-    /// What to do where nobody's rules are asked for, if they are.
-    fn conflict(&self) -> Option<&'static str>
-        ensures { IsSome result ↔ HasNoRules self.now }
+    /// Whether something is asked that only messages answer.
+    fn asks_of_messages(&self) -> bool
+        ensures { result ≡ asks_of_messages self.now }
+    {
+        self.ended
+            || self.profile.is_some()
+            || self.breaches.are_all()
+            || self.other_opcodes.are_skipped()
+    }
+
+    /// Whether that is asked, and the messages aren't judged.
+    fn is_beside_messages(&self) -> bool
+        ensures { IsTrue result ↔ IsBesideMessages self.now }
+    {
+        !self.messages && self.asks_of_messages()
+    }
+
+    /// Whether rules are asked for that there aren't.
+    fn has_no_rules(&self) -> bool
+        ensures { IsTrue result ↔ HasNoRules self.now }
     {
         match self.profile {
-            Some(name) if !is_profile(name) => Some(NO_PROFILE),
-            _ => None,
+            Some(name) => !is_profile(name),
+            None => false,
+        }
+    }
+
+    /// What doesn't go together, and what to do, if there is anything.
+    fn conflict(&self) -> Option<&'static str>
+        ensures { IsSome result ↔ (IsBesideMessages self.now ⊎ HasNoRules self.now) }
+    {
+        if self.is_beside_messages() {
+            Some(NO_MESSAGES)
+        } else if self.has_no_rules() {
+            Some(NO_PROFILE)
+        } else {
+            None
         }
     }
 }
@@ -281,7 +378,7 @@ pub enum Settings<'a> {
     Page(Replay<'a>),
     Explore(Explore<'a>),
     Show(Show<'a>),
-    Fences(Fences<'a>),
+    Fences(Audit<'a>),
     Check(Check<'a>),
 }
 

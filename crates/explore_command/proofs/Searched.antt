@@ -25,7 +25,7 @@ use Rattle.explore_command.specs.Asking.{HasProgram}
 use Rattle.explore_command.specs.Targets.{names_of}
 use Rattle.state_search.specs.declared.findings.Extent.TheVariants as extent
 use Rattle.architecture_outcomes.specs.TheVariants as reach
-use Rattle.std.proofs.Common.{◌≤◌, All, Err, IfOk, Ok, Result}
+use Rattle.std.proofs.Common.{◌<◌, ◌≤◌, ◌⊎◌, ◌∙◌, inl, inr, sym, true, Bool, All, Err, IfOk, Ok, Result}
 use Rattle.std.specs.Prelude.{min}
 use Rattle.std.specs.List.Sorted.{IsStrictlySortedBy}
 use Rattle.std.specs.Ordering.{on}
@@ -35,7 +35,13 @@ use Rattle.architecture_outcomes.specs.Visited.{AreMachineStates, TellsEnd}
 use Rattle.explorer.specs.Ranks.{outcome_cmp}
 use Rattle.flat_model.specs.Flat.{Flat}
 use Rattle.architecture_outcomes.specs.Complete.{TellsEachAllowed}
+use Rattle.architecture_outcomes.specs.LeftOut.{keeps_limit}
+use Rattle.architecture_outcomes.specs.Met.{HasMet}
 use Rattle.architecture_outcomes.specs.Openings.{NeverOpens}
+use Rattle.allowed_outcomes.specs.declared.allowing.Allowed.{Allowed as Lines}
+use Rattle.architecture_outcomes.specs.Outcomes.{HasSought}
+use Rattle.explore_command.specs.Sought.{EndsUnder, IsRefused, IsRefusedBy, IsSoughtBy}
+use Rattle.state_search.specs.declared.until.Ending.TheVariants.{First, Time}
 
 module _ (held : Contents) (wanted : Explore) (words : List Name) (window : ℕ) (config : Config) (image : Initial) (addresses : List ℕ) (names : List WordName) (found : Architecture)
     (inside : IsInside wanted.machine) (config_is : config ≡ config_named wanted.machine inside) (program : HasProgram held wanted words image addresses) (named : names ≡ names_of words) (is : IsFoundUnder image config addresses window wanted.states found) where
@@ -52,16 +58,18 @@ module _ (held : Contents) (wanted : Explore) (words : List Name) (window : ℕ)
   has P so = record { architecture = found; of_file = of_file; of_text = subst (λ (n : List WordName). P (architecture_text n found)) named so }
 
   pub whole : (old new : Option (List ℕ)) (left : Contents) (judgement : Judgement) (text : Option (List ℕ)) → Appends old new (architecture_text names found) → HasName wanted.scripts → IfSome wanted.scripts (λ folder. AreWaysKept left config wanted.machine.memory folder.now 1 found.outcomes.items)
-      → SparesOthers (IsInNamed wanted.scripts (IsWayFile 1 found.outcomes.items)) held left
+      → EndsUnder wanted.first names text found → SparesOthers (IsInNamed wanted.scripts (IsWayFile 1 found.outcomes.items)) held left
       → IsAllowFile held wanted.allow text → judgement ≡ judgement_of_lines text (map (λ o. end_text names (end_of o)) found.outcomes.items) (search_fails wanted.fail_on found)
       → (judgement ≡ Allowed → (found.machine ≢ extent.OutOfMemory) × (found.reach ≢ reach.OutOfMemory)) → IsSearched held left wanted words window judgement old new
   unfolding of_file
-  whole old new left judgement text printed folder kept spares read by memory = record {
+  whole old new left judgement text printed folder kept ends spares read by memory = record {
     architecture = found;
     of_file = of_file;
     printed = subst (λ (n : List WordName). Appends old new (architecture_text n found)) named printed;
     named = folder;
     kept = subst (λ (c : Config). IfSome wanted.scripts (λ folder. AreWaysKept left c wanted.machine.memory folder.now 1 found.outcomes.items)) config_is kept;
+    first = λ first. (ends.first first).0;
+    untimed = ends.untimed;
     spared = spares;
     judged = judged_of end_of held wanted.allow text names (names_of words) found.outcomes.items (search_fails wanted.fail_on found) judgement named read by;
     whole = memory;
@@ -81,8 +89,37 @@ module _ (held : Contents) (wanted : Explore) (words : List Name) (window : ℕ)
 -- what is said of it, fact by fact
 pub found_under : (image : Initial) (config : Config) (addresses : List ℕ) (window limit : ℕ) (r : Result Architecture AllocError) → IfOk r (λ a. All (IsWitnessed image config addresses) a.outcomes.items)
     → IfOk r (λ a. a.machine ≡ extent.Complete → TellsEachEnd image config addresses a.outcomes.items) → IfOk r (λ a. a.machine ≡ extent.Complete → All (λ o. IsDecided o.way) a.outcomes.items)
-    → IfOk r (λ a. a.reach ≡ reach.Whole → TellsEachAllowed image config addresses (ends_of a.outcomes.items)) → IfOk r (λ a. a.reach ≡ reach.Whole → a.states ≡ 0 → NeverOpens image config) → IfOk r (λ a. a.reach ≢ reach.LimitMet → a.reach ≢ reach.OutOfMemory → a.states ≤ limit) → IfOk r (λ a. IsStrictlySortedBy (on end_of outcome_cmp) a.outcomes.items)
+    → IfOk r (λ a. a.reach ≡ reach.Whole → TellsEachAllowed image config addresses (ends_of a.outcomes.items)) → IfOk r (λ a. a.reach ≡ reach.Whole → a.states ≡ 0 → NeverOpens image config) → IfOk r (λ a. keeps_limit a.reach ≡ true → a.states ≤ limit) → IfOk r (λ a. a.reach ≡ reach.LimitMet → limit < a.states) → IfOk r (λ a. HasMet image a.window a.reach) → IfOk r (λ a. IsStrictlySortedBy (on end_of outcome_cmp) a.outcomes.items)
     → IfOk r (λ a. a.machine_states ≤ limit) → IfOk r (λ a. a.machine ≡ extent.LimitMet → a.machine_states ≡ limit) → IfOk r (λ a. a.model ≡ config.model)
     → IfOk r (λ a. (states : List Flat) × AreMachineStates image config addresses a.machine a.machine_states (TellsEnd a.outcomes.items) states) → IfOk r (λ a. a.window ≡ min window 64) → IfOk r (IsFoundUnder image config addresses window limit)
-found_under image config addresses window limit (Ok a) shown machine alone allowed opens bounded order within full model visited width = record { shown = shown; machine = machine; alone = alone; allowed = allowed; opens = opens; bounded = bounded; order = order; within = within; full = full; model = model; visited = visited; window_is = width }
-found_under image config addresses window limit (Err error) shown machine alone allowed opens bounded order within full model visited width = tt
+found_under image config addresses window limit (Ok a) shown machine alone allowed opens bounded limited met order within full model visited width = record { shown = shown; machine = machine; alone = alone; allowed = allowed; opens = opens; bounded = bounded; limited = limited; met = met; order = order; within = within; full = full; model = model; visited = visited; window_is = width }
+found_under image config addresses window limit (Err error) shown machine alone allowed opens bounded limited met order within full model visited width = tt
+
+-- what ended it
+pub ends_under : (is_asked asked : Bool) (names called : List WordName) (text : Option (List ℕ)) (allowed : Option Lines) → asked ≡ is_asked → called ≡ names → ((line : List ℕ) → IsRefusedBy allowed line → IsRefused text line)
+    → (r : Result Architecture AllocError)
+    → IfOk r (λ a. a.reach ≡ reach.Ended First → HasSought ⊥ (λ end. IsSoughtBy asked called allowed end ⊎ IsSoughtBy asked called allowed end) (ends_of a.outcomes.items)) → IfOk r (λ a. a.reach ≡ reach.Ended Time → ⊥ ⊎ ⊥)
+    → IfOk r (EndsUnder is_asked names text)
+ends_under is_asked asked names called text allowed same known reads (Ok a) first timed = record {
+  first = λ ended. elim (first ended) [
+    | inl never ↦ absurd never
+    | inr (end, there, either) ↦
+        let (is, why) = one either in (
+          sym same ∙ is,
+          (
+            end,
+            there,
+            elim why [
+              | inl stopped ↦ inl stopped
+              | inr refuses ↦ inr (subst (λ (n : List WordName). IsRefused text (end_text n end)) known (reads (end_text called end) refuses))
+            ],
+          ),
+        )
+  ];
+  untimed = λ ended. elim (timed ended) [ inl never ↦ never | inr never ↦ never ];
+}
+  where
+    one : {X : Type 0} → X ⊎ X → X
+    one (inl x) = x
+    one (inr x) = x
+ends_under is_asked asked names called text allowed same known reads (Err error) first timed = tt

@@ -11,3 +11,4 @@ pub mod Telling
 pub mod Passing
 pub mod Sparing
 pub mod Sought
+pub use Rattle.exploration_text.specs.declared.wording.WordName

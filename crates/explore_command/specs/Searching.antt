@@ -1,5 +1,5 @@
 -- What a search under a memory model has told, written and judged.
-use Rattle.std.specs.Prelude.{◌≡◌, ◌≢◌, ◌≤◌, ◌⊎◌, ℕ, All, Bool, IfSome, List, Option, false, map, min, not}
+use Rattle.std.specs.Prelude.{◌≡◌, ◌≢◌, ◌<◌, ◌≤◌, ◌⊎◌, ℕ, All, Bool, IfSome, List, Option, false, map, min, not, true}
 use Rattle.std.specs.Io.KnownBytes.{Appends}
 use Rattle.std.specs.List.Sorted.{IsStrictlySortedBy}
 use Rattle.std.specs.Ordering.{on}
@@ -29,13 +29,16 @@ use Rattle.state_search.specs.declared.findings.Extent.{Extent}
 use Rattle.state_search.specs.declared.findings.Extent.TheVariants.{Complete, LimitMet}
 use Rattle.state_search.specs.declared.findings.Extent.TheVariants as extent
 use Rattle.architecture_outcomes.specs.Complete.{TellsEachAllowed}
+use Rattle.architecture_outcomes.specs.Met.{HasMet}
 use Rattle.architecture_outcomes.specs.Openings.{NeverOpens}
+use Rattle.architecture_outcomes.specs.LeftOut.{keeps_limit}
 use Rattle.architecture_outcomes.specs.Reach.{Reach}
 use Rattle.architecture_outcomes.specs.TheVariants as reach
+use Rattle.state_search.specs.declared.until.Ending.TheVariants.{First, Time}
 use Rattle.explorer.specs.Ranks.{outcome_cmp}
 
 -- what is said to show an outcome does; where the machine's own search is complete, each of its outcomes is told as one of the machine, and each other as the model's alone;
--- where the search under the model left nothing out, each outcome that the model allows is told; that search finds no state only where a hart never comes from reset to an access or its end, or says that it left out more; the machine's search finds no more states than the limit, and says where it met it; the model's finds no more, unless it says that it met a limit or that memory ended;
+-- where the search under the model left nothing out, each outcome that the model allows is told; that search finds no state only where a hart never comes from reset to an access or its end, or says that it left out more; the machine's search finds no more states than the limit, and says where it met it; the model's finds no more, unless it says that it met the limit, and then it did, or was ended, or that memory ended; each other bound that it says it met was met, and there;
 -- the outcomes stand in their order, each once; unless memory ended the machine's search, each end among its states is told as the machine's; the window told is the one asked for, 64 where that is more
 pub record IsFoundUnder (image : Initial) (config : Config) (addresses : List ℕ) (window limit : ℕ) (found : Architecture) : Type 0 where
   pub shown : All (IsWitnessed image config addresses) found.outcomes.items
@@ -43,7 +46,9 @@ pub record IsFoundUnder (image : Initial) (config : Config) (addresses : List �
   pub alone : found.machine ≡ Complete → All (λ o. IsDecided o.way) found.outcomes.items
   pub allowed : found.reach ≡ reach.Whole → TellsEachAllowed image config addresses (ends_of found.outcomes.items)
   pub opens : found.reach ≡ reach.Whole → found.states ≡ 0 → NeverOpens image config
-  pub bounded : found.reach ≢ reach.LimitMet → found.reach ≢ reach.OutOfMemory → found.states ≤ limit
+  pub bounded : keeps_limit found.reach ≡ true → found.states ≤ limit
+  pub limited : found.reach ≡ reach.LimitMet → limit < found.states
+  pub met : HasMet image found.window found.reach
   pub order : IsStrictlySortedBy (on end_of outcome_cmp) found.outcomes.items
   pub within : found.machine_states ≤ limit
   pub full : found.machine ≡ LimitMet → found.machine_states ≡ limit
@@ -68,13 +73,15 @@ pub record IsOfFile (held : Contents) (wanted : Explore) (words : List Name) (wi
   pub inside : IsInside wanted.machine
   pub found : IsFoundUnder image (config_named wanted.machine inside) addresses window wanted.states architecture
 
--- what was found was printed, what shows it is in the folder, if one was named, and each other file is as before, and it was judged by the file that says what is allowed; it is allowed only where memory sufficed for both searches
+-- what was found was printed, what shows it is in the folder, if one was named, and each other file is as before, and it was judged by the file that says what is allowed; it ended at the first only where that was asked for, and at no time; it is allowed only where memory sufficed for both searches
 pub record IsSearched (held left : Contents) (wanted : Explore) (words : List Name) (window : ℕ) (judgement : Judgement) (old new : Option (List ℕ)) : Type 0 where
   pub architecture : Architecture
   pub of_file : IsOfFile held wanted words window architecture
   pub printed : Appends old new (architecture_text (names_of words) architecture)
   pub named : HasName wanted.scripts
   pub kept : IfSome wanted.scripts (λ folder. AreWaysKept left (config_named wanted.machine of_file.inside) wanted.machine.memory folder.now 1 architecture.outcomes.items)
+  pub first : architecture.reach ≡ reach.Ended First → wanted.first ≡ true
+  pub untimed : architecture.reach ≢ reach.Ended Time
   pub spared : SparesOthers (IsInNamed wanted.scripts (IsWayFile 1 architecture.outcomes.items)) held left
   pub judged : IsJudged held wanted.allow (map (λ o. end_text (names_of words) (end_of o)) architecture.outcomes.items) (search_fails wanted.fail_on architecture) judgement
   pub whole : judgement ≡ Allowed → (architecture.machine ≢ extent.OutOfMemory) × (architecture.reach ≢ reach.OutOfMemory)

@@ -3,7 +3,11 @@ use Rattle.std.specs.Prelude.{ℕ, ◌≡◌, ◌≢◌, ◌⊎◌, ◌<◌, Boo
 use Rattle.allowed_outcomes.specs.Allowing.{is_allowed_line, without_number}
 use Rattle.allowed_outcomes.specs.Known.{allows_line}
 use Rattle.allowed_outcomes.specs.declared.allowing.Allowed.{Allowed}
+use Rattle.architecture_outcomes.specs.declared.architecture.Architecture.{Architecture}
+use Rattle.architecture_outcomes.specs.Outcomes.{ends_of}
+use Rattle.architecture_outcomes.specs.TheVariants as reach
 use Rattle.exploration_text.specs.Words.{end_text}
+use Rattle.explore_command.specs.Judging.{has_stopped}
 use Rattle.exploration_text.specs.declared.wording.WordName.{WordName}
 use Rattle.command_files.specs.declared.allowing.Judgement.{Judgement}
 use Rattle.command_files.specs.declared.allowing.Judgement.TheVariants.{NotAllowed}
@@ -22,6 +26,15 @@ IsRefused (Some text) line = is_allowed_line text (without_number line) ≡ fals
 abbrev pub IsRefusedBy : Option Allowed → (line : List ℕ) → Type 0
 IsRefusedBy None line = ⊥
 IsRefusedBy (Some allowed) line = allows_line allowed (without_number line) ≡ false
+
+-- an outcome in which a hart has stopped, or that isn't allowed, where that is asked for
+abbrev pub IsSoughtBy : (is_asked : Bool) → List WordName → Option Allowed → Outcome → Type 0
+IsSoughtBy is_asked names allowed o = (is_asked ≡ true) × ((has_stopped o.results ≡ true) ⊎ IsRefusedBy allowed (end_text names o))
+
+-- a search under a memory model ended at the first only where that was asked for, and it tells an outcome in which a hart has stopped, or that the text doesn't allow, where the words are called so; and it ended at no time
+pub record EndsUnder (is_asked : Bool) (names : List WordName) (text : Option (List ℕ)) (found : Architecture) : Type 0 where
+  pub first : found.reach ≡ reach.Ended First → (is_asked ≡ true) × ((o : Outcome) × Contains (ends_of found.outcomes.items) o × ((has_stopped o.results ≡ true) ⊎ IsRefused text (end_text names o)))
+  pub untimed : found.reach ≢ reach.Ended Time
 
 -- it ended at the first only where that was asked for, and it tells a hart that stops, or an outcome that the text doesn't allow, where the words are called so; and it ended at no time
 pub record EndsBy (is_asked : Bool) (names : List WordName) (text : Option (List ℕ)) (found : Exploration) : Type 0 where

@@ -66,7 +66,7 @@ fn has_failure<T: Findings>(found: &T) -> bool
 }
 
 /// Whether one of the harts stopped.
-fn has_stopped(harts: &[HartResult]) -> bool
+pub(crate) fn has_stopped(harts: &[HartResult]) -> bool
     ensures { result ≡ has_stopped (told harts.now) }
 {
     let mut rest = harts;

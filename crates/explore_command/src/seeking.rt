@@ -12,12 +12,12 @@ use std::alloc::{AllocError, Global};
 /// Seeks a hart that stops, and an outcome that a text doesn't allow, where it is asked to.
 #[derive(Drop)]
 pub(crate) struct First<'f, 'w> {
-    alloc: Global,
-    is_asked: bool,
+    pub(crate) alloc: Global,
+    pub(crate) is_asked: bool,
     /// What lines call the words that are shown.
-    names: &'f [WordName<'w>],
+    pub(crate) names: &'f [WordName<'w>],
     /// What the text allows, where there is one.
-    allowed: Option<Allowed<'f>>,
+    pub(crate) allowed: Option<Allowed<'f>>,
 }
 
 impl<'f, 'w> First<'f, 'w> {

@@ -7,3 +7,4 @@ mod words;
 
 pub(crate) use asked::AskedWords;
 pub use showing::show_files;
+pub use targets::{Targets, targets_of};

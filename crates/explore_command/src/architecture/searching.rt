@@ -1,15 +1,17 @@
 //! `rvtl explore --architecture`: what a memory model allows a program is sought, told, judged and kept.
 
-ghost use Rattle.std.specs.Prelude.{◌≡◌, ◌⊎◌, ◌<◌, Err, IfErr, IfOk, OnErr};
+ghost use Rattle.std.specs.Prelude.{◌≡◌, ◌⊎◌, ◌<◌, Err, IfErr, IfOk, OnErr, option_map};
 ghost use Rattle.explore_command.specs.ModelKeeping.{IsFileInNamed};
 ghost use Rattle.explore_command.specs.Searching.{IsFoundUnder, IsSearchFault, IsSearchNoted, IsSearched, SearchHas};
 ghost use Rattle.explore_command.specs.Telling.{AreRemarked};
 ghost use Rattle.command_files.specs.Sizes.{IsOutside};
 ghost use Rattle.explore_command.specs.Exploring.{ComesBeforeScripts, LeavesPart};
 ghost use Rattle.explore_command.specs.Keeping.{SparesOthers};
+ghost use Rattle.explore_command.specs.Sought.{EndsUnder};
 ghost use Rattle.explorer.specs.Words.{CanShowEach};
 
 use crate::architecture::allowed::Searched;
+use crate::architecture::seeking::FirstOutcome;
 use crate::architecture::telling::remarks_on;
 use crate::exploring::Telling;
 use crate::findings::print;
@@ -20,6 +22,7 @@ use architecture_outcomes::{Architecture, Outcome, explore_architecture};
 use command_files::{Fault, Files, Judgement};
 use command_settings::Explore;
 use elf_loader::Image;
+use exploration_text::WordName;
 use explorer::Exploring;
 use machine_types::Config;
 use progress_line::Progress;
@@ -70,6 +73,8 @@ pub fn architecture_files<'a, F: Files, O: Write, E: Write, P: Progress>(
         &targets.addresses,
         window,
         wanted,
+        &targets.names,
+        &allowed,
         progress,
     ) else {
         return Err(Fault::OutOfMemory);
@@ -97,18 +102,24 @@ fn found_under<P: Progress>(
     addresses: &[u32],
     window: u32,
     wanted: Explore<'_>,
+    names: &[WordName<'_>],
+    allowed: &Option<Vec<u8>>,
     progress: &P,
 ) -> Result<Architecture, AllocError>
     requires room { 0 < wanted.states }
     requires words { CanShowEach image.now addresses.now }
-    ensures { IfOk result (IsFoundUnder image.now config addresses.now window wanted.entry.states) }
+    ensures found { IfOk result (IsFoundUnder image.now config addresses.now window wanted.entry.states) }
+    ensures ends { IfOk result (EndsUnder wanted.entry.first names.now (option_map (λ bytes. bytes.items) allowed.now)) }
 {
     let watch = Telling { progress };
     let exploring = Exploring {
         limit: wanted.states,
         shortened: wanted.shortens(),
     };
-    let found = explore_architecture(alloc, image, config, addresses, window, exploring, &watch);
+    let seek = FirstOutcome::new(alloc, wanted.first, names, allowed)?;
+    let found = explore_architecture(
+        alloc, image, config, addresses, window, exploring, &watch, &seek, &seek,
+    );
     progress.end();
     found
 }

@@ -14,7 +14,7 @@ use std::alloc::{AllocError, Global};
 
 /// What lines call the words, and where they lie, both in the order of their asking.
 #[derive(Drop)]
-pub(crate) struct Targets<'a> {
+pub struct Targets<'a> {
     pub names: Vec<WordName<'a>>,
     pub addresses: Vec<u32>,
 }
@@ -92,8 +92,9 @@ fn labels_of<'a>(alloc: Global, words: &[&'a str]) -> Result<Vec<WordName<'a>>, 
     Ok(names)
 }
 
-/// The words that are to be shown, if all of them can.
-pub(crate) fn targets_of<'a>(
+/// The words that are to be shown, if all of them can. Else the error is that the first that can't be is none of the
+/// image's symbols, or that no aligned word of memory lies there; or that there was no memory.
+pub fn targets_of<'a>(
     alloc: Global,
     image: &Image,
     symbols: &Symbols,

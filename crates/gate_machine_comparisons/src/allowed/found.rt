@@ -45,7 +45,16 @@ fn are_among(witnesses: &[Witness], outcomes: &[Found]) -> bool {
 /// The outcomes that are found under a model, which are to have all those among them to which the machine comes.
 pub fn allowed(alloc: Global, image: &Image, config: Config) -> Result<Vec<Witness>> {
     let model = config.model;
-    let found = search(alloc, image, config, &[], WINDOW, STATES, &Unwatched)?;
+    let found = search(
+        alloc,
+        image,
+        config,
+        &[],
+        WINDOW,
+        STATES,
+        &Unwatched,
+        &Throughout,
+    )?;
     ensure!(found.reach == Reach::Whole, "{model:?}: a bound is met");
     let exploring = Exploring {
         limit: STATES,

@@ -1,8 +1,8 @@
-use Rattle.std.proofs.Common.{◌≡◌, ◌++◌, List, rules, subst}
+use Rattle.std.proofs.Common.{◌≡◌, ◌++◌, ⊎_elim, inl, inr, List, rules, subst}
 use Rattle.architecture_outcomes.specs.declared.outcome.Outcome.{Outcome}
 use Rattle.architecture_outcomes.specs.Outcomes.{TellEach, TellOnce}
 use Rattle.window_search.specs.Told.{endings_of}
-use Rattle.architecture_outcomes.proofs.Each.{all_allowed}
+use Rattle.architecture_outcomes.proofs.Each.{all_allowed, machine_sought, model_sought}
 use Rattle.architecture_outcomes.proofs.Once.{rises}
 use Rattle.architecture_outcomes.proofs.Together.{all_decided, all_shown, each_told, end_told}
 use Rattle.architecture_outcomes.proofs.Visited.{states_more}
@@ -61,3 +61,18 @@ returns-clause-allowed g c whole =
     joined c.sort_unstable.ensures.permutation
     (subst (λ (fs : List Outcome). TellEach (endings_of c.args.addresses.now c.search_model-witnesses.result.witnesses.items) fs c.in_ok-outcomes.outcomes.items) c.deref.ensures.value c.in_ok-outcomes.ensures.all)
     (c.search_model-witnesses.ensures.allowed whole)
+
+pub returns-clause-first : goal.returns-clause-first
+returns-clause-first g c = λ first.
+    let found = c.in_ok-found.field-0.outcomes.items in
+    let joined : c.append.new.self.items ≡ c.in_ok-outcomes.outcomes.items ++ found = search rules in
+    ⊎_elim
+    (λ ended. machine_sought _ _ _ found c.in_ok-outcomes.outcomes.items c.append.new.self.items c.sort_unstable.new.self.items joined c.sort_unstable.ensures.permutation (c.in_ok-found.ensures.first ended))
+    (λ sought.
+    model_sought _ _ _ c.args.image.now c.args.config c.args.addresses.now c.search_model-witnesses.result.witnesses.items found c.in_ok-outcomes.outcomes.items c.append.new.self.items c.sort_unstable.new.self.items joined c.sort_unstable.ensures.permutation
+    (subst (λ (fs : List Outcome). TellEach (endings_of c.args.addresses.now c.search_model-witnesses.result.witnesses.items) fs c.in_ok-outcomes.outcomes.items) c.deref.ensures.value c.in_ok-outcomes.ensures.all)
+    c.search_model-witnesses.ensures.witnessed sought)
+    (c.search_model-witnesses.ensures.first first)
+
+pub returns-clause-timed : goal.returns-clause-timed
+returns-clause-timed g c = λ timed. ⊎_elim (λ ended. inl (c.in_ok-found.ensures.timed ended)) (λ late. inr late) (c.search_model-witnesses.ensures.timed timed)

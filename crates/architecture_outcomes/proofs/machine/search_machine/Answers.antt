@@ -1,13 +1,14 @@
-use Rattle.std.proofs.Common.{◌≡◌, All, Contains, List, map, subst, sym}
+use Rattle.std.proofs.Common.{◌≡◌, inl, inr, All, Contains, List, map, subst, sym}
 use Rattle.std.proofs.lemmas.List.Elements.{All-map}
 use Rattle.std.specs.List.Sorted.{IsStrictlySortedBy}
 use Rattle.std.specs.Ordering.{on}
 use Rattle.architecture_outcomes.proofs.Ends.{all_found, same_ends, strict}
 use Rattle.architecture_outcomes.proofs.Visited.{states_are}
 use Rattle.architecture_outcomes.specs.declared.outcome.Outcome.{Outcome}
-use Rattle.architecture_outcomes.specs.Outcomes.{IsMachine, IsWitnessed, end_of, ends_of, of_found}
+use Rattle.architecture_outcomes.specs.Outcomes.{HasSought, IsMachine, IsWitnessed, end_of, ends_of, of_found}
 use Rattle.architecture_outcomes.specs.Visited.{AreMachineStates}
 use Rattle.explorer.specs.Outcomes.{HasEachEnd}
+use Rattle.explorer.specs.Ends.{outcomes_of}
 use Rattle.explorer.specs.Ranks.{outcome_cmp}
 use Rattle.performed_words.specs.Outcomes.{Outcome as End}
 use Rattle.architecture_outcomes.proofs.machine.search_machine.Goals as goal
@@ -36,3 +37,10 @@ returns-clause-visited g c =
       subst (λ (os : List Outcome). AreMachineStates c.args.image.now c.args.config c.args.addresses.now e.extent e.states (Contains (ends_of os)) visited.0) (sym c.in_ok-of_machine.ensures)
           (states_are c.args.image.now c.args.config c.args.addresses.now e visited.0 visited.1),
     )
+
+pub returns-clause-first : goal.returns-clause-first
+returns-clause-first g c = λ first.
+    let stops = g.S.Seek.SeeksStops c.args.seek.now in
+    let sought = g.S.Seek.IsSought c.args.seek.now in
+    let ends : HasSought stops sought (outcomes_of c.in_ok-outcomes.field-0.outcomes.items) = elim (c.in_ok-outcomes.ensures.first first) [ inl told ↦ inl told.0 | inr told ↦ inr told ] in
+    subst (λ (os : List Outcome). HasSought stops sought (ends_of os)) (sym c.in_ok-of_machine.ensures) (subst (λ (es : List End). HasSought stops sought es) (same_ends c.in_ok-outcomes.field-0.outcomes.items) ends)

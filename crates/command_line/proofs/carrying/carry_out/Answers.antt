@@ -1,6 +1,6 @@
 use Rattle.std.proofs.Common.{refl, subst, sym}
 use Rattle.command_files.proofs.Left.{handed_up}
-use Rattle.command_line.proofs.Carried.{all_noted, all_stay, all_told_of, check_beyond, check_came, explore_beyond, explore_came, explore_written, show_beyond, fences_beyond, fences_came, fences_noted, show_came, show_written, stay_of, told_of}
+use Rattle.command_line.proofs.Carried.{all_noted, all_stay, all_told_of, check_beyond, check_came, explore_beyond, explore_came, explore_written, show_beyond, fences_beyond, fences_came, fences_noted, fences_written, show_came, show_written, stay_of, told_of}
 use Rattle.command_line.proofs.Meant.{beyond_run, journal_alone, no_address, unwritten}
 use Rattle.command_line.proofs.Leaving.{all_left_of, as_told, chart_inside, chart_outside, check_inside, check_outside, explore_inside, explore_outside, fences_inside, fences_outside, left_of, show_inside, show_outside}
 use Rattle.command_line.specs.Running.{IsOutOfRange, IsDone, IsNoted, IsWritten}
@@ -246,28 +246,28 @@ returns-in-Check-clause-noted g c = all_noted _ _ _ _ _ _ _ _ c.checked.result c
 
 -- an audit of orderings
 pub returns-in-Fences-clause-came : goal.returns-in-Fences-clause-came
-returns-in-Fences-clause-came g c = fences_came _ _ _ _ _ c.in-Fences.fences c.fences_files.result c.in-Fences.is c.fences_files.ensures.audited
+returns-in-Fences-clause-came g c = fences_came _ _ _ _ _ c.in-Fences.audit c.fences_files.result c.in-Fences.is c.fences_files.ensures.audited
 
 pub returns-in-Fences-clause-leaves : goal.returns-in-Fences-clause-leaves
 returns-in-Fences-clause-leaves g c = all_left_of _ _ _ _ _ _ c.fences_files.result c.in-Fences.is c.fences_files.ensures.unfinished
 
 pub returns-in-Fences-clause-outside : goal.returns-in-Fences-clause-outside
-returns-in-Fences-clause-outside g c = fences_outside _ c.in-Fences.fences c.fences_files.result c.in-Fences.is c.fences_files.ensures.outside
+returns-in-Fences-clause-outside g c = fences_outside _ c.in-Fences.audit c.fences_files.result c.in-Fences.is c.fences_files.ensures.outside
 
 pub returns-in-Fences-clause-inside : goal.returns-in-Fences-clause-inside
-returns-in-Fences-clause-inside g c = fences_inside _ c.in-Fences.fences c.fences_files.result c.in-Fences.is c.fences_files.ensures.outside
+returns-in-Fences-clause-inside g c = fences_inside _ c.in-Fences.audit c.fences_files.result c.in-Fences.is c.fences_files.ensures.outside
 
 pub returns-in-Fences-clause-beyond : goal.returns-in-Fences-clause-beyond
-returns-in-Fences-clause-beyond g c = fences_beyond _ _ _ _ c.in-Fences.fences _ c.fences_files.result c.in-Fences.is c.fences_files.ensures.told c.fences_files.ensures.unfinished
+returns-in-Fences-clause-beyond g c = fences_beyond _ _ _ _ c.in-Fences.audit _ c.fences_files.result c.in-Fences.is c.fences_files.ensures.told c.fences_files.ensures.unfinished
 
 pub returns-in-Fences-clause-spared : goal.returns-in-Fences-clause-spared
-returns-in-Fences-clause-spared g c = unwritten _ _ _ c.fences_files.ensures.spared
+returns-in-Fences-clause-spared g c = fences_written _ _ _ c.in-Fences.audit c.in-Fences.is c.fences_files.ensures.spared
 
 pub returns-in-Fences-clause-told : goal.returns-in-Fences-clause-told
 returns-in-Fences-clause-told g c = all_told_of _ _ _ _ _ c.fences_files.result c.in-Fences.is c.fences_files.ensures.told
 
 pub returns-in-Fences-clause-untouched : goal.returns-in-Fences-clause-untouched
-returns-in-Fences-clause-untouched g c = all_stay _ _ _ c.fences_files.result c.fences_files.ensures.spared
+returns-in-Fences-clause-untouched g c = stay_of _ _ _ _ c.fences_files.result c.in-Fences.is c.fences_files.ensures.untouched
 
 pub returns-in-Fences-clause-noted : goal.returns-in-Fences-clause-noted
-returns-in-Fences-clause-noted g c = fences_noted _ _ _ _ _ _ _ c.in-Fences.fences c.fences_files.result c.in-Fences.is refl
+returns-in-Fences-clause-noted g c = fences_noted _ _ _ _ _ _ _ c.in-Fences.audit c.fences_files.result c.in-Fences.is refl

@@ -68,13 +68,13 @@ returns-in_ok-explore_of-in-explore-clause-meant c = λ whole.
 pub returns-in_err-explore_of-in-explore-clause-missing : goal.returns-in_err-explore_of-in-explore-clause-missing
 returns-in_err-explore_of-in-explore-clause-missing c = λ none whole. c.in_err-explore_of-in-explore.ensures.missing refl (complete c.args.name.now (codes "explore") (rows_of (found_of c.args.given.now)) (search rules) whole)
 
-pub returns-in_ok-fences_of-in-fences-clause-meant : goal.returns-in_ok-fences_of-in-fences-clause-meant
-returns-in_ok-fences_of-in-fences-clause-meant c = λ whole.
+pub returns-in_ok-audit_of-in-fences-clause-meant : goal.returns-in_ok-audit_of-in-fences-clause-meant
+returns-in_ok-audit_of-in-fences-clause-meant c = λ whole.
     let is : c.args.name.now ≡ codes "fences" = search rules in
-    (is, c.in_ok-fences_of-in-fences.ensures.meant (complete c.args.name.now (codes "fences") (rows_of (found_of c.args.given.now)) is whole))
+    (is, c.in_ok-audit_of-in-fences.ensures.meant (complete c.args.name.now (codes "fences") (rows_of (found_of c.args.given.now)) is whole))
 
-pub returns-in_err-fences_of-in-fences-clause-missing : goal.returns-in_err-fences_of-in-fences-clause-missing
-returns-in_err-fences_of-in-fences-clause-missing c = λ none whole. c.in_err-fences_of-in-fences.ensures.missing refl (complete c.args.name.now (codes "fences") (rows_of (found_of c.args.given.now)) (search rules) whole)
+pub returns-in_err-audit_of-in-fences-clause-missing : goal.returns-in_err-audit_of-in-fences-clause-missing
+returns-in_err-audit_of-in-fences-clause-missing c = λ none whole. c.in_err-audit_of-in-fences.ensures.missing refl (complete c.args.name.now (codes "fences") (rows_of (found_of c.args.given.now)) (search rules) whole)
 
 pub returns-in_ok-check_of-in-check-clause-meant : goal.returns-in_ok-check_of-in-check-clause-meant
 returns-in_ok-check_of-in-check-clause-meant c = λ whole.

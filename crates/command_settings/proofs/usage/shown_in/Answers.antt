@@ -6,7 +6,7 @@ use Rattle.command_settings.proofs.usage.shown_in.Goals.{in-Some-get_strs+in_ok-
 
 pub returns : goal.returns
 returns c = λ name rows is.
-    let f = found_of c.in-Some.explore.now in
+    let f = found_of c.in-Some.subcommand.now in
     let own = rows_there _ _ name rows c.in-Some.ensures.rows is in
     elim c.match-get_strs.branch [
       | in-Some-get_strs+in_ok-extend_from_slice w ↦

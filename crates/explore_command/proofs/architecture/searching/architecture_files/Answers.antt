@@ -1,4 +1,4 @@
-use Rattle.std.proofs.Common.{List, inl, inr, refl, subst, sym, ℕ}
+use Rattle.std.proofs.Common.{List, option_map, inl, inr, refl, subst, sym, ℕ}
 use Rattle.command_files.proofs.Left.{handed_up}
 use Rattle.explore_command.proofs.ModelKept.{way_file}
 use Rattle.explore_command.proofs.Readable.{each_has_text}
@@ -11,7 +11,9 @@ use Rattle.explore_command.proofs.Faults.{folder_late, folder_left, folder_told,
 use Rattle.explore_command.proofs.Kept.{spares_wider}
 use Rattle.explore_command.proofs.Refused.{begun_by, on_err_of}
 use Rattle.explore_command.proofs.Asking.{asking_left, asking_told}
+use Rattle.exploration_text.specs.declared.wording.WordName.{WordName}
 use Rattle.explore_command.specs.Asking.{HasProgram}
+use Rattle.explore_command.specs.Sought.{EndsUnder}
 use Rattle.explore_command.proofs.architecture.searching.architecture_files.Goals as goal
 
 pub returns-in_err-config-clause-told : goal.returns-in_err-config-clause-told
@@ -27,7 +29,7 @@ returns-in_err-config-clause-spared g c = spared _ _ _ c.read.ensures.stays
 pub keep-requires-clause-readable : goal.keep-requires-clause-readable
 keep-requires-clause-readable g c =
     let asked = c.in_ok-config.field-0 in
-    each_has_text asked.image asked.config c.entry-entry.ensures.image _ c.in-Ok.architecture.outcomes.items c.in-Ok.ensures.shown
+    each_has_text asked.image asked.config c.entry-entry.ensures.image _ c.in-Ok.architecture.outcomes.items c.in-Ok.ensures.found.shown
 
 pub returns-in_err-print-clause-told : goal.returns-in_err-print-clause-told
 returns-in_err-print-clause-told g c = handed_up _ c.from_residual-in_err-print.result _ c.from_residual-in_err-print.ensures.1 (inl (output_told _ c.args.wanted _ c.in_err-print.ensures.told))
@@ -40,7 +42,7 @@ returns-in_err-print-clause-unfinished g c =
     handed_up _ c.from_residual-in_err-print.result _ c.from_residual-in_err-print.ensures.1
     (output_left _ _ _ _ c.in_err-print.ensures.told
     (has held c.args.wanted c.args.words.now c.args.window asked.config asked.image c.deref.result.now _ c.in-Ok.architecture c.in_ok-config.ensures.config.0 c.in_ok-config.ensures.config.1 program c.in_ok-config.ensures.names
-    c.in-Ok.ensures
+    c.in-Ok.ensures.found
     _ c.in_err-print.ensures.begun))
 
 pub returns-in_err-print-clause-spared : goal.returns-in_err-print-clause-spared
@@ -55,7 +57,7 @@ returns-in_err-keep-clause-unfinished g c =
     let asked = c.in_ok-config.field-0 in
     let program = subst (λ (a : List ℕ). HasProgram held c.args.wanted c.args.words.now asked.image a) (sym c.deref.ensures.value) c.in_ok-config.ensures.program in
     let has_text = has held c.args.wanted c.args.words.now c.args.window asked.config asked.image c.deref.result.now _ c.in-Ok.architecture c.in_ok-config.ensures.config.0 c.in_ok-config.ensures.config.1 program c.in_ok-config.ensures.names
-    c.in-Ok.ensures in
+    c.in-Ok.ensures.found in
     handed_up _ c.from_residual-in_err-keep.result _ c.from_residual-in_err-keep.ensures.1
     (folder_left c.args.wanted _ _ _ _ c.in_err-keep.ensures.told (has_text _ (all_of _ _ _ c.in_ok-print.ensures.printed)) (has_text _ c.in_ok-print.ensures.printed))
 
@@ -73,7 +75,7 @@ returns-in_err-remarked-clause-unfinished g c =
     handed_up _ c.from_residual-in_err-remarked.result _ c.from_residual-in_err-remarked.ensures.1
     (memory_left _ _ _ _ c.in_err-remarked.ensures.told
     (has held c.args.wanted c.args.words.now c.args.window asked.config asked.image c.deref.result.now _ c.in-Ok.architecture c.in_ok-config.ensures.config.0 c.in_ok-config.ensures.config.1 program c.in_ok-config.ensures.names
-    c.in-Ok.ensures
+    c.in-Ok.ensures.found
     _ (all_of _ _ _ c.in_ok-print.ensures.printed)))
 
 pub returns-in_err-remarked-clause-spared : goal.returns-in_err-remarked-clause-spared
@@ -87,8 +89,8 @@ returns-clause-searched g c =
     ok_more _ _ c.judge-judgement.result
     (λ judgement is.
     whole held c.args.wanted c.args.words.now c.args.window asked.config asked.image c.deref.result.now _ c.in-Ok.architecture c.in_ok-config.ensures.config.0 c.in_ok-config.ensures.config.1 program c.in_ok-config.ensures.names
-    c.in-Ok.ensures
-    _ _ (g.F.Files.held c.keep.new.files) judgement _ c.in_ok-print.ensures.printed c.in_ok-config.ensures.named c.in_ok-keep.ensures.kept (spared_after _ _ _ _ c.in_ok-config.ensures.stays c.keep.ensures.spared) c.in_ok-config.ensures.allowed is.0 is.1)
+    c.in-Ok.ensures.found
+    _ _ (g.F.Files.held c.keep.new.files) judgement _ c.in_ok-print.ensures.printed c.in_ok-config.ensures.named c.in_ok-keep.ensures.kept (subst (λ (n : List WordName). EndsUnder c.args.wanted.first n (option_map (λ bytes. bytes.items) asked.allowed) c.in-Ok.architecture) c.deref-2.ensures.value c.in-Ok.ensures.ends) (spared_after _ _ _ _ c.in_ok-config.ensures.stays c.keep.ensures.spared) c.in_ok-config.ensures.allowed is.0 is.1)
     (ok_both _ _ c.judge-judgement.result c.judge-judgement.ensures.judged c.judge-judgement.ensures.whole)
 
 pub returns-clause-told : goal.returns-clause-told
@@ -102,7 +104,7 @@ returns-clause-unfinished g c =
     err_more _ _ c.judge-judgement.result
     (λ fault is. memory_left fault _ _ _ is
     (has held c.args.wanted c.args.words.now c.args.window asked.config asked.image c.deref.result.now _ c.in-Ok.architecture c.in_ok-config.ensures.config.0 c.in_ok-config.ensures.config.1 program c.in_ok-config.ensures.names
-    c.in-Ok.ensures
+    c.in-Ok.ensures.found
     _ (all_of _ _ _ c.in_ok-print.ensures.printed)))
     c.judge-judgement.ensures.told
 
@@ -148,11 +150,11 @@ returns-clause-noted g c =
     let held = g.F.Files.held c.args.files.now in
     let asked = c.in_ok-config.field-0 in
     let program = subst (λ (a : List ℕ). HasProgram held c.args.wanted c.args.words.now asked.image a) (sym c.deref.ensures.value) c.in_ok-config.ensures.program in
-    let remarked = subst (λ (os : List Outcome). AreRemarked c.args.wanted.scripts os (g.E.Write.contents c.args.err.now) (g.E.Write.contents c.tell-remarked.new.err)) c.deref-2.ensures.value c.tell-remarked.ensures.remarked in
+    let remarked = subst (λ (os : List Outcome). AreRemarked c.args.wanted.scripts os (g.E.Write.contents c.args.err.now) (g.E.Write.contents c.tell-remarked.new.err)) c.deref-3.ensures.value c.tell-remarked.ensures.remarked in
     ok_more _ _ c.judge-judgement.result
     (λ judgement so.
     noted held c.args.wanted c.args.words.now c.args.window asked.config asked.image c.deref.result.now _ c.in-Ok.architecture c.in_ok-config.ensures.config.0 c.in_ok-config.ensures.config.1 program c.in_ok-config.ensures.names
-    c.in-Ok.ensures
+    c.in-Ok.ensures.found
     _ _ (g.E.Write.contents c.args.err.now) (g.E.Write.contents c.tell-remarked.new.err) (g.E.Write.contents c.judge-judgement.new.err) judgement _ c.in_ok-print.ensures.printed remarked c.in_ok-config.ensures.allowed so)
     c.judge-judgement.ensures.noted
 
@@ -161,10 +163,10 @@ returns-in_err-keep-clause-judged_first g c =
     let held = g.F.Files.held c.args.files.now in
     let asked = c.in_ok-config.field-0 in
     let program = subst (λ (a : List ℕ). HasProgram held c.args.wanted c.args.words.now asked.image a) (sym c.deref.ensures.value) c.in_ok-config.ensures.program in
-    let remarked = subst (λ (os : List Outcome). AreRemarked c.args.wanted.scripts os (g.E.Write.contents c.args.err.now) (g.E.Write.contents c.tell-remarked.new.err)) c.deref-2.ensures.value c.tell-remarked.ensures.remarked in
+    let remarked = subst (λ (os : List Outcome). AreRemarked c.args.wanted.scripts os (g.E.Write.contents c.args.err.now) (g.E.Write.contents c.tell-remarked.new.err)) c.deref-3.ensures.value c.tell-remarked.ensures.remarked in
     on_err_of c.from_residual-in_err-keep.result (inr
     (noted held c.args.wanted c.args.words.now c.args.window asked.config asked.image c.deref.result.now _ c.in-Ok.architecture c.in_ok-config.ensures.config.0 c.in_ok-config.ensures.config.1 program c.in_ok-config.ensures.names
-    c.in-Ok.ensures
+    c.in-Ok.ensures.found
     _ _ (g.E.Write.contents c.args.err.now) (g.E.Write.contents c.tell-remarked.new.err) (g.E.Write.contents c.judge-judgement.new.err) NotAllowed _ c.in_ok-print.ensures.printed remarked c.in_ok-config.ensures.allowed
     (begun_by _ _ _ c.judge-judgement.result c.judge-judgement.ensures.noted c.judge-judgement.ensures.silent)))
 
@@ -173,10 +175,10 @@ returns-in_err-remarked-clause-judged_first g c =
     let held = g.F.Files.held c.args.files.now in
     let asked = c.in_ok-config.field-0 in
     let program = subst (λ (a : List ℕ). HasProgram held c.args.wanted c.args.words.now asked.image a) (sym c.deref.ensures.value) c.in_ok-config.ensures.program in
-    let remarked = subst (λ (os : List Outcome). AreRemarked c.args.wanted.scripts os (g.E.Write.contents c.args.err.now) (g.E.Write.contents c.tell-remarked.new.err)) c.deref-2.ensures.value c.tell-remarked.ensures.remarked in
+    let remarked = subst (λ (os : List Outcome). AreRemarked c.args.wanted.scripts os (g.E.Write.contents c.args.err.now) (g.E.Write.contents c.tell-remarked.new.err)) c.deref-3.ensures.value c.tell-remarked.ensures.remarked in
     on_err_of c.from_residual-in_err-remarked.result (inr
     (noted held c.args.wanted c.args.words.now c.args.window asked.config asked.image c.deref.result.now _ c.in-Ok.architecture c.in_ok-config.ensures.config.0 c.in_ok-config.ensures.config.1 program c.in_ok-config.ensures.names
-    c.in-Ok.ensures
+    c.in-Ok.ensures.found
     _ _ (g.E.Write.contents c.args.err.now) (g.E.Write.contents c.tell-remarked.new.err) (g.E.Write.contents c.judge-judgement.new.err) NotAllowed _ c.in_ok-print.ensures.printed remarked c.in_ok-config.ensures.allowed
     (begun_by _ _ _ c.judge-judgement.result c.judge-judgement.ensures.noted c.judge-judgement.ensures.silent)))
 
@@ -185,9 +187,9 @@ returns-clause-judged_first g c =
     let held = g.F.Files.held c.args.files.now in
     let asked = c.in_ok-config.field-0 in
     let program = subst (λ (a : List ℕ). HasProgram held c.args.wanted c.args.words.now asked.image a) (sym c.deref.ensures.value) c.in_ok-config.ensures.program in
-    let remarked = subst (λ (os : List Outcome). AreRemarked c.args.wanted.scripts os (g.E.Write.contents c.args.err.now) (g.E.Write.contents c.tell-remarked.new.err)) c.deref-2.ensures.value c.tell-remarked.ensures.remarked in
+    let remarked = subst (λ (os : List Outcome). AreRemarked c.args.wanted.scripts os (g.E.Write.contents c.args.err.now) (g.E.Write.contents c.tell-remarked.new.err)) c.deref-3.ensures.value c.tell-remarked.ensures.remarked in
     on_err_of c.judge-judgement.result (inr
     (noted held c.args.wanted c.args.words.now c.args.window asked.config asked.image c.deref.result.now _ c.in-Ok.architecture c.in_ok-config.ensures.config.0 c.in_ok-config.ensures.config.1 program c.in_ok-config.ensures.names
-    c.in-Ok.ensures
+    c.in-Ok.ensures.found
     _ _ (g.E.Write.contents c.args.err.now) (g.E.Write.contents c.tell-remarked.new.err) (g.E.Write.contents c.judge-judgement.new.err) NotAllowed _ c.in_ok-print.ensures.printed remarked c.in_ok-config.ensures.allowed
     (begun_by _ _ _ c.judge-judgement.result c.judge-judgement.ensures.noted c.judge-judgement.ensures.silent)))

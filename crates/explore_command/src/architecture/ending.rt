@@ -1,0 +1,26 @@
+//! What ends the search under the model itself.
+
+ghost use Rattle.explore_command.specs.Sought.{IsSoughtBy};
+
+use crate::architecture::seeking::FirstOutcome;
+use architecture_outcomes::window_search::Seek;
+use flat_model::HartResult;
+use std::alloc::AllocError;
+
+impl Seek for FirstOutcome<'_, '_> {
+    ghost IsSought = { λ seek outcome. IsSoughtBy seek.first.is_asked seek.first.names.now seek.first.allowed outcome };
+
+    ghost IsTimed = { λ seek. ⊥ };
+
+    fn seeks_outcomes(&self) -> bool {
+        self.first.is_asked
+    }
+
+    fn seeks(&self, harts: &[HartResult], words: &[u32]) -> Result<bool, AllocError> {
+        self.is_sought(harts, words)
+    }
+
+    fn is_late(&self) -> bool {
+        false
+    }
+}

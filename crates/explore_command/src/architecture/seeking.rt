@@ -1,0 +1,76 @@
+//! What a search under a memory model that is to end at the first of what it finds seeks.
+
+ghost use Rattle.std.specs.Prelude.{◌≡◌, IfOk, List, Ok, option_map, true, ℕ};
+ghost use Rattle.explore_command.specs.Sought.{IsRefused, IsRefusedBy, IsSoughtBy};
+ghost use Rattle.explorer.specs.Ends.{outcome_with};
+
+use crate::failing::has_stopped;
+use crate::seeking::First;
+use allowed_outcomes::without_number;
+use exploration_text::{WordName, end_text};
+use explorer::{Outcome, Seek};
+use flat_model::HartResult;
+use std::alloc::{AllocError, Global};
+
+/// Seeks an outcome in which a hart has stopped, or that a text doesn't allow, where it is asked to.
+#[derive(Drop)]
+pub(crate) struct FirstOutcome<'f, 'w> {
+    pub(crate) first: First<'f, 'w>,
+}
+
+impl<'f, 'w> FirstOutcome<'f, 'w> {
+    pub(crate) fn new(
+        alloc: Global,
+        is_asked: bool,
+        names: &'f [WordName<'w>],
+        text: &'f Option<Vec<u8>>,
+    ) -> Result<FirstOutcome<'f, 'w>, AllocError>
+        ensures asked { IfOk result (λ seek. seek.first.is_asked ≡ is_asked) }
+        ensures names { IfOk result (λ seek. seek.first.names.now ≡ names.now) }
+        ensures refuses { IfOk result (λ seek. (line : List ℕ) → IsRefusedBy seek.first.allowed line → IsRefused (option_map (λ bytes. bytes.items) text.now) line) }
+    {
+        let first = First::new(alloc, is_asked, names, text)?;
+        Ok(FirstOutcome { first })
+    }
+
+    /// Whether an outcome with these results and words is sought.
+    pub(crate) fn is_sought(&self, harts: &[HartResult], words: &[u32]) -> Result<bool, AllocError>
+        ensures { result ≡ Ok true → IsSoughtBy self.now.first.is_asked self.now.first.names.now self.now.first.allowed (outcome_with harts.now words.now) }
+    {
+        if !self.first.is_asked {
+            return Ok(false);
+        }
+        if has_stopped(harts) {
+            return Ok(true);
+        }
+        let Some(allowed) = &self.first.allowed else {
+            return Ok(false);
+        };
+        let line = end_text(self.first.alloc, self.first.names, harts, words)?;
+        Ok(!allowed.has(without_number(&line)))
+    }
+}
+
+impl Seek for FirstOutcome<'_, '_> {
+    ghost SeeksStops = { λ seek. ⊥ };
+
+    ghost IsSought = { λ seek outcome. IsSoughtBy seek.first.is_asked seek.first.names.now seek.first.allowed outcome };
+
+    ghost IsTimed = { λ seek. ⊥ };
+
+    fn seeks_stops(&self) -> bool {
+        false
+    }
+
+    fn seeks_outcomes(&self) -> bool {
+        self.first.is_asked
+    }
+
+    fn seeks(&self, outcome: &Outcome) -> Result<bool, AllocError> {
+        self.is_sought(outcome.results().harts(), outcome.words())
+    }
+
+    fn is_late(&self) -> bool {
+        false
+    }
+}
