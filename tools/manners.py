@@ -164,6 +164,23 @@ def behind_a_limit(rvtl, folder):
           "note: harts 0 and 1 hadn't ended when a limit was met: 1000000 instructions of a hart"])
 
 
+def too_much_to_draw(rvtl, folder):
+    """A script of a million events is refused as soon as a replay of it has ended, and a text without an end where no file of its kind is longer."""
+    script = os.path.join(folder, "much.script")
+    with open(script, "w") as file:
+        file.write("rvtl-script 1 1 4 4 2\n" + "step 0\n" * 1000000)
+    spin = os.path.join(folder, "spin.bin")
+    begun = time.monotonic()
+    ends("a chart of a million events", [rvtl, "chart", "--raw", spin, script], 1,
+         [f"rvtl: {script}: too much to draw (400 rows, or 65535 lines of text, at most): choose less by --line, or by a shorter script"])
+    tell("it is refused within two seconds", time.monotonic() < begun + 2, time.monotonic() - begun)
+    endless = subprocess.Popen(["sh", "-c", "echo rvtl-trace 1; exec cat /dev/zero"], stdout=subprocess.PIPE, stderr=subprocess.DEVNULL)
+    ends("a trace that goes on without an end", [rvtl, "check", "-"], 1,
+         ["rvtl: -: cannot read", "note: it has more than 2147483648 bytes, and no more is read"], stdin=endless.stdout)
+    endless.stdout.close()
+    endless.wait()
+
+
 def another_order(rvtl, folder):
     """What a trace or a script doesn't say, or was made for another program, is remarked."""
     trace = os.path.join(folder, "unstated.trace")
@@ -291,6 +308,7 @@ def main():
         no_room_for_a_stack(rvtl)
         behind_a_limit(rvtl, folder)
         another_order(rvtl, folder)
+        too_much_to_draw(rvtl, folder)
         memory_ends(rvtl, folder)
         refused_programs(rvtl, folder)
         interrupted(rvtl, folder)

@@ -6,9 +6,12 @@ usage: tools/refused_in_turn.py [NAME..]      rows (row_10 ..) and commands (che
 Rows 10, 13, 18 and 34 are played by `gate_comparisons` event by event, as whole lists and on a fabric: whichever allocation is
 refused, it goes on and prints the same. A command of `rvtl` on a small file prints what it prints undisturbed, or ends with status 4 and
 `rvtl: out of memory` behind a beginning of it; an exploration may tell fewer outcomes, each a true one, and says `out of memory` in its last line.
-Where the start of a hart's thread is refused in place of an allocation, or memory for one, it says `rvtl: cannot start a thread`, with status 1; where that of
-its own, `out of memory` and how large a stack it asked for, with status 4. Prints a line for each row and command with the number of
-refusals, which is never 0. `rt ci` has to have built the programs.
+Where the start of a hart's thread is refused in place of an allocation, or memory for one, it says `rvtl: cannot start a thread`, with status 1;
+where that of its own, `out of memory` and how large a stack it asked for, with status 4. `rt ci` has to have built the programs.
+
+A program is run once: at each call that may be refused it forks, and in the child the call is refused. A thread runs to its end where it is
+started, so that each child has the whole program; a run has one hart. Prints a line for each row and command with the number of refusals, which
+is never 0, and one for all.
 """
 import os
 import pathlib
@@ -25,71 +28,106 @@ COMPARISONS = TOP / "crates/gate_comparisons/out/gate_comparisons"
 DATA = TOP / "crates/gate_comparisons/data"
 EXAMPLES = TOP / "examples"
 ROWS = ("row_10", "row_13", "row_18", "row_34")
+# The most seconds that a program may take, and its children one by one.
+SECONDS = 60
 
-# Refuses the call of the number in REFUSED, of the kind in REFUSED_KIND, and then writes a byte to the descriptor in REFUSED_TELLS.
+# Beside the program's own calls; the kit's compiler has no C headers. A child's number and status go to the descriptor REFUSED_TELLS, and what it
+# prints and writes into REFUSED_FOLDER: what the program itself had printed until then stands before it.
 SHIM = r"""
 typedef unsigned long size_t;
 extern void *__libc_malloc(size_t), *__libc_calloc(size_t, size_t), *__libc_realloc(void *, size_t), *__libc_memalign(size_t, size_t);
 extern char *getenv(const char *);
-extern long atol(const char *), write(int, const void *, size_t);
-extern int *__errno_location(void);
-extern void *dlsym(void *, const char *);
-static long calls, starts;
-static int is_refused(long *count, const char *kind) {
-  const char *number = getenv("REFUSED"), *wanted = getenv("REFUSED_KIND");
-  if (!number || !wanted || *wanted != *kind) return 0;
-  if (__atomic_add_fetch(count, 1, __ATOMIC_SEQ_CST) != atol(number)) return 0;
-  write(atol(getenv("REFUSED_TELLS")), "x", 1);
-  *__errno_location() = *kind == 'm' ? 12 : 11;
+extern long pread(int, void *, size_t, long), write(int, const void *, size_t);
+extern int fork(void), waitpid(int, int *, int), alarm(int), atoi(const char *), mkdir(const char *, int), chdir(const char *), open(const char *, int, ...),
+  dup2(int, int), close(int), snprintf(char *, size_t, const char *, ...), *__errno_location(void);
+static long calls;
+static int watches;
+__attribute__((constructor)) static void watch(void) { watches = 1; }
+static const char *own(const char *what) {
+  static char path[4096];
+  snprintf(path, sizeof path, "%s/%ld%s", getenv("REFUSED_FOLDER"), calls, what);
+  return path;
+}
+static void print_into(int fd, const char *path) {
+  char bytes[4096];
+  int to = open(path, 0102, 0600);
+  for (long from = 0, count; (count = pread(fd, bytes, sizeof bytes, from)) > 0; from += count) write(to, bytes, count);
+  dup2(to, fd);
+  close(to);
+}
+static int is_refused(const char *kind, int error) {
+  if (!watches || *getenv("REFUSED_KIND") != *kind) return 0;
+  calls += 1;
+  int status, child = fork();
+  if (child != 0) {
+    char line[64];
+    waitpid(child, &status, 0);
+    write(atoi(getenv("REFUSED_TELLS")), line, snprintf(line, sizeof line, "%ld %d\n", calls, status));
+    return 0;
+  }
+  watches = 0;
+  alarm(atoi(getenv("REFUSED_SECONDS")));
+  print_into(1, own(".out"));
+  print_into(2, own(".err"));
+  mkdir(own(""), 0700);
+  if (*getenv("REFUSED_WRITES") == 'y') chdir(own(""));
+  *__errno_location() = error;
   return 1;
 }
-void *malloc(size_t n) { return is_refused(&calls, "memory") ? 0 : __libc_malloc(n); }
-void *calloc(size_t n, size_t m) { return is_refused(&calls, "memory") ? 0 : __libc_calloc(n, m); }
-void *realloc(void *p, size_t n) { return is_refused(&calls, "memory") ? 0 : __libc_realloc(p, n); }
-void *aligned_alloc(size_t a, size_t n) { return is_refused(&calls, "memory") ? 0 : __libc_memalign(a, n); }
-void *memalign(size_t a, size_t n) { return is_refused(&calls, "memory") ? 0 : __libc_memalign(a, n); }
+void *malloc(size_t n) { return is_refused("memory", 12) ? 0 : __libc_malloc(n); }
+void *calloc(size_t n, size_t m) { return is_refused("memory", 12) ? 0 : __libc_calloc(n, m); }
+void *realloc(void *p, size_t n) { return is_refused("memory", 12) ? 0 : __libc_realloc(p, n); }
+void *aligned_alloc(size_t a, size_t n) { return is_refused("memory", 12) ? 0 : __libc_memalign(a, n); }
+void *memalign(size_t a, size_t n) { return is_refused("memory", 12) ? 0 : __libc_memalign(a, n); }
 int posix_memalign(void **p, size_t a, size_t n) {
-  if (is_refused(&calls, "memory")) return 12;
-  *p = __libc_memalign(a, n);
+  *p = is_refused("memory", 12) ? 0 : __libc_memalign(a, n);
   return *p ? 0 : 12;
 }
-int pthread_create(void *thread, const void *how, void *(*body)(void *), void *with) {
-  static int (*real)(void *, const void *, void *(*)(void *), void *);
-  if (is_refused(&starts, "thread")) return 11;
-  if (!real) *(void **)&real = dlsym((void *)-1, "pthread_create");
-  return real(thread, how, body, with);
+int pthread_create(unsigned long *thread, const void *how, void *(*body)(void *), void *with) {
+  if (is_refused("thread", 11)) return 11;
+  *thread = 0;
+  body(with);
+  return 0;
 }
+int pthread_join(unsigned long thread, void **answer) { return 0; }
+int pthread_detach(unsigned long thread) { return 0; }
 """
 
 
-class Run:
-    """What a program did: its status, what it printed, the files that it left, and whether something was refused."""
+class End:
+    """How a program ended: its status, what it printed and the files that it left."""
 
-    def __init__(self, words, shim, kind=None, number=0):
-        with tempfile.TemporaryDirectory() as folder:
-            reader, writer = os.pipe()
-            beside = {}
-            if kind:
-                beside = {"LD_PRELOAD": str(shim), "REFUSED": str(number), "REFUSED_KIND": kind, "REFUSED_TELLS": str(writer)}
-            cwd = DATA if words[0] == COMPARISONS else folder
-            ran = subprocess.run(
-                [str(word) for word in words],
-                cwd=cwd,
-                env={**os.environ, **beside},
-                capture_output=True,
-                pass_fds=(writer,),
-                timeout=120,
-            )
-            os.close(writer)
-            self.is_refused = os.read(reader, 1) == b"x"
-            os.close(reader)
-            self.status, self.out, self.err = ran.returncode, ran.stdout.decode(), ran.stderr.decode()
-            self.files = {}
-            if cwd == folder:
-                self.files = {it.name: it.read_bytes() for it in pathlib.Path(folder).rglob("*") if it.is_file()}
+    def __init__(self, folder, name, status):
+        self.status = os.WEXITSTATUS(status) if os.WIFEXITED(status) else -os.WTERMSIG(status)
+        self.out, self.err = ((folder / f"{name}.{it}").read_text() for it in ("out", "err"))
+        self.files = {it.name: it.read_bytes() for it in (folder / name).iterdir()}
 
-    def is_like(self, other):
-        return (self.status, self.out, self.files) == (other.status, other.out, other.files)
+    def is_like(self, whole):
+        """It printed the same, and what it wrote since it was forked is the same."""
+        return (self.status, self.out) == (whole.status, whole.out) and self.files.items() <= whole.files.items()
+
+
+def ends(words, shim, kind, folder):
+    """How the program ended undisturbed, and then with each call refused."""
+    writes = words[0] == RVTL
+    (folder / "0").mkdir()
+    reader, writer = os.pipe()
+    beside = {"LD_PRELOAD": shim, "REFUSED_FOLDER": folder, "REFUSED_KIND": kind, "REFUSED_SECONDS": SECONDS, "REFUSED_TELLS": writer, "REFUSED_WRITES": "y" if writes else "n"}
+    with open(folder / "0.out", "w+b") as out, open(folder / "0.err", "w+b") as err:
+        program = subprocess.Popen(
+            [str(word) for word in words],
+            cwd=folder / "0" if writes else DATA,
+            env={**os.environ, **{name: str(it) for name, it in beside.items()}},
+            stdout=out,
+            stderr=err,
+            pass_fds=(writer,),
+        )
+    os.close(writer)
+    with open(reader) as told:
+        children = [line.split() for line in told]
+    status = program.wait()
+    whole = End(folder, "0", status << 8 if status >= 0 else -status)
+    return whole, [End(folder, name, int(status)) for name, status in children]
 
 
 def commands():
@@ -98,12 +136,16 @@ def commands():
     yield "replay", ["replay", "--raw", load, EXAMPLES / "load.script"]
     yield "explain", ["explain", "--raw", load, EXAMPLES / "load.script"]
     yield "explain --state", ["explain", "--raw", "--state", load, EXAMPLES / "load.script"]
+    yield "explain --vcd", ["explain", "--raw", "--vcd", load, EXAMPLES / "load.script"]
     yield "explain of a trace", ["explain", DATA / "two_words.elf", DATA / "two_words.trace"]
     yield "chart", ["chart", f"{store}.elf", f"{store}.script"]
+    yield "page", ["page", "--raw", load, EXAMPLES / "load.script"]
     yield "check", ["check", EXAMPLES / "exchanged.trace"]
     yield "check --messages", ["check", "--messages", EXAMPLES / "two_trunks.trace"]
     yield "run", ["run", "--raw", "--harts", "1", "--journal", "run.script", EXAMPLES / "exit.bin"]
-    yield "explore", ["explore", "--harts", "2", "--scripts", ".", f"{store}.elf"]
+    # Both look at 2,000 names of scripts; how scripts are made shorter is played with one outcome.
+    yield "explore", ["explore", "--harts", "2", "--scripts", ".", EXAMPLES / "lost_update.elf"]
+    yield "explore --whole", ["explore", "--harts", "2", "--whole", "--scripts", ".", f"{store}.elf"]
     yield "explore --show", ["explore", "--harts", "2", "--show", "counter", EXAMPLES / "lost_update.elf"]
     yield "explore --sample", ["explore", "--harts", "2", "--sample", "2", "--seed", "1", f"{store}.elf"]
     yield "explore --architecture", ["explore", "--architecture", "--harts", "2", "--scripts", ".", EXAMPLES / "message_passing_unacquired.elf"]
@@ -115,68 +157,63 @@ def shown(lines):
     return {re.sub(r"^\d+  |   (this machine|RVWMO.*|without a script)$", "", line) for line in lines}
 
 
-def says_wrong(run, whole):
+def memory_wrong(end, whole):
     """What a command says where memory was refused that it may not say, or None."""
-    if run.is_like(whole):
+    if end.is_like(whole):
         return None
-    if run.status in (0, 3) and run.out == whole.out and set(run.files) <= set(whole.files):
+    if end.status in (0, 3) and end.out == whole.out and set(end.files) <= set(whole.files):
         return None  # a note alone is wanting
-    if run.status == 1 and not run.out and run.err == "rvtl: cannot start a thread\n":
+    if end.status == 1 and not end.out and end.err == "rvtl: cannot start a thread\n":
         return None  # the refused memory was that of a thread
-    lines, last = run.out.splitlines(), run.out.splitlines()[-1:] or [""]
-    if run.status != 4 or not run.err.splitlines() or "rvtl: out of memory" not in run.err.splitlines() + last and "out of memory" not in run.err + last[0]:
-        return f"status {run.status}, {run.out[-120:]!r}, {run.err[-120:]!r}"
-    if whole.out.startswith(run.out) or shown(lines[:-1]) <= shown(whole.out.splitlines()):
+    lines, last = end.out.splitlines(), end.out.splitlines()[-1:] or [""]
+    if end.status != 4 or not end.err.splitlines() or "rvtl: out of memory" not in end.err.splitlines() + last and "out of memory" not in end.err + last[0]:
+        return f"status {end.status}, {end.out[-120:]!r}, {end.err[-120:]!r}"
+    if whole.out.startswith(end.out) or shown(lines[:-1]) <= shown(whole.out.splitlines()):
         return None
-    return f"lines that stand nowhere undisturbed: {run.out[-200:]!r}"
+    return f"lines that stand nowhere undisturbed: {end.out[-200:]!r}"
+
+
+def row_wrong(end, whole):
+    return None if end.is_like(whole) and end.status == 0 else f"status {end.status}, {end.out[-120:]!r}, {end.err[-120:]!r}"
+
+
+def start_wrong(end, whole):
+    of_hart = end.status == 1 and end.err.splitlines()[-1:] == ["rvtl: cannot start a thread"]
+    own = ["rvtl: out of memory", "note: no thread with a stack of 8192 KiB was to be had"]
+    is_told = of_hart or end.status == 4 and end.err.splitlines() == own
+    return None if is_told or end.is_like(whole) else f"status {end.status}, {end.err[-120:]!r}"
 
 
 def refusals(words, shim, kind, judge):
-    """How many runs there are in which something is refused, and the first that says what is wrong."""
-    whole = Run(words, shim)
-    count, batch = 0, 64
-    with ThreadPoolExecutor(os.cpu_count()) as pool:
-        while True:
-            numbers = range(count + 1, count + 1 + batch)
-            for number, run in zip(numbers, pool.map(lambda n: Run(words, shim, kind, n), numbers)):
-                if not run.is_refused:
-                    return count, None
-                count = number
-                wrong = judge(run, whole)
-                if wrong:
-                    return count, f"{kind} {number}: {wrong}"
-
-
-def row_wrong(run, whole):
-    return None if run.is_like(whole) and run.status == 0 else f"status {run.status}, {run.out[-120:]!r}, {run.err[-120:]!r}"
-
-
-def start_wrong(run, whole):
-    of_hart = run.status == 1 and run.err.splitlines()[-1:] == ["rvtl: cannot start a thread"]
-    own = ["rvtl: out of memory", "note: no thread with a stack of 8192 KiB was to be had"]
-    is_told = of_hart or run.status == 4 and run.err.splitlines() == own
-    return None if is_told or run.is_like(whole) else f"status {run.status}, {run.err[-120:]!r}"
+    """How many calls there are to refuse, and the first of which what is wrong is said."""
+    with tempfile.TemporaryDirectory() as folder:
+        whole, children = ends(words, shim, kind, pathlib.Path(folder))
+        wrongs = ((number, judge(end, whole)) for number, end in enumerate(children, 1))
+        return len(children), next((f"{kind} {number}: {wrong}" for number, wrong in wrongs if wrong), None)
 
 
 def main():
     wanted = sys.argv[1:]
     compiler = pathlib.Path(os.path.realpath(shutil.which("rt"))).parent.parent / "toolchain/bin/clang"
-    failed = False
-    with tempfile.TemporaryDirectory() as folder:
+    lacking = [it for it in (RVTL, COMPARISONS) if not it.exists()]
+    if lacking:
+        print(f"refused in turn: no {lacking[0]}")
+        return True
+    well = total = 0
+    with tempfile.TemporaryDirectory() as folder, ThreadPoolExecutor(os.cpu_count()) as pool:
         shim = pathlib.Path(folder) / "refuse.so"
         code = pathlib.Path(folder) / "refuse.c"
         code.write_text(SHIM)
         subprocess.run([compiler, "-O1", "-w", "-fPIC", "-shared", "-nostdlib", "-fuse-ld=lld", "-o", shim, code], check=True)
         tries = [(row, [COMPARISONS, row], "memory", row_wrong) for row in ROWS]
-        tries += [(name, [RVTL, *words], "memory", says_wrong) for name, words in commands()]
+        tries += [(name, [RVTL, *words], "memory", memory_wrong) for name, words in commands()]
         tries += [(f"{name}, threads", [RVTL, *words], "thread", start_wrong) for name, words in commands() if name in ("check", "run")]
-        for name, words, kind, judge in tries:
-            if wanted and name not in wanted:
-                continue
-            count, wrong = refusals(words, shim, kind, judge)
-            failed |= bool(wrong) or count == 0
+        tries = [it for it in tries if not wanted or it[0] in wanted]
+        for (name, *_), (count, wrong) in zip(tries, pool.map(lambda it: refusals(it[1], shim, *it[2:]), tries)):
+            well, total = well + (count > 0 and not wrong), total + count
             print(f"{name}: {count} refusals, {wrong or 'each told' if count else 'none made'}", flush=True)
-    return failed
+    print(f"refused in turn: {well} of {len(tries)} rows and commands as they should be, {total} refusals")
+    return well < len(tries)
 
 
 if __name__ == "__main__":
