@@ -1,6 +1,6 @@
 //! `rvtl check --messages`: the log of a trace's messages is judged, and the verdict printed.
 
-ghost use Rattle.std.specs.Prelude.{◌≡◌, ◌≢◌, ◌==◌, IfErr, IfOk, not};
+ghost use Rattle.std.specs.Prelude.{◌≡◌, ◌≢◌, ◌==◌, IfErr, IfOk, OnErr, not};
 ghost use Rattle.std.specs.Option.{option_copied};
 ghost use Rattle.std.specs.List.{list_any};
 ghost use Rattle.text_fields.specs.Writing.{Writes};
@@ -65,6 +65,7 @@ pub fn check_messages<'a, F: Files, O: Write, E: Write>(
     ensures told { IfErr result (IsLogFault (F.held files.old) check.skip file.entry) }
     ensures spared { F.held files.new ≡ F.held files.old }
     ensures quiet { IfOk result (λ verdict. verdict ≡ MessageVerdict.Lawful → E.contents err.new ≡ E.contents err.old) }
+    ensures silent { OnErr result (E.contents err.new ≡ E.contents err.old) }
 {
     let read = read_log(alloc, files, file, check.skip)?;
     let Ok(answer) = answered(alloc, &read.trace, check) else {

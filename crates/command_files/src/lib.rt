@@ -9,6 +9,7 @@ mod fault;
 mod files;
 mod input;
 mod machines;
+mod message;
 mod no_outcomes;
 mod reading;
 mod remarked;

@@ -1,6 +1,6 @@
 -- What came of a command is what came of the settings that name it.
-use Rattle.std.proofs.Common.{◌≡◌, ◌≢◌, ℕ, Bool, Err, IfErr, IfOk, List, Ok, Option, Result, false, subst, sym, true}
-use Rattle.std.specs.Prelude.{nat_lt}
+use Rattle.std.proofs.Common.{◌≡◌, ◌≢◌, ◌⊎◌, ℕ, Bool, Err, IfErr, IfOk, List, Ok, Option, Result, false, subst, sym, true}
+use Rattle.std.specs.Prelude.{OnErr, nat_lt}
 use Rattle.clap.specs.Words.{Text}
 use Rattle.command_files.specs.Contents.{Contents}
 use Rattle.command_files.specs.Status.{status_of}
@@ -13,10 +13,10 @@ use Rattle.command_settings.specs.declared.wanted.Audit.{Audit}
 use Rattle.command_settings.specs.declared.wanted.Settings.{Settings}
 use Rattle.command_settings.specs.declared.wanted.Show.{Show as Shown}
 use Rattle.command_settings.specs.declared.wanted.Settings.TheVariants.{Check, Explore, Fences, Show}
-use Rattle.command_line.specs.Telling.{ComesBeforeFiles, IsFaultOfCommand, IsShowingFault}
+use Rattle.command_line.specs.Telling.{AreJudged, AreWordsJudged, ComesBeforeFiles, IsFaultOfCommand, IsNotedAt, IsShowingFault}
 use Rattle.fences_command.specs.Fencing.{IsAuditTold, IsFencesFault}
 use Rattle.fences_command.specs.Keeping.{IsProgramFile}
-use Rattle.explore_command.specs.Exploring.{IsExploreFault, LeavesPart}
+use Rattle.explore_command.specs.Exploring.{ComesBeforeScripts, IsExploreFault, LeavesPart}
 use Rattle.explore_command.specs.Keeping.{SparesOthers}
 use Rattle.command_files.specs.declared.allowing.Judgement.{Judgement}
 use Rattle.command_files.specs.declared.allowing.Judgement.TheVariants.{Allowed, NotAllowed}
@@ -118,3 +118,27 @@ pub fences_noted : (held left : Contents) (old new before after : Option (List �
     → IfOk r (λ judgement. IsNoted held left old new before after judgement wanted)
 fences_noted held left old new before after wanted audit (Ok judgement) is same = subst (IsNoted held left old new before after judgement) (sym is) same
 fences_noted held left old new before after wanted audit (Err fault) is same = tt
+
+-- ---- what stands on standard error before a fault
+
+module _ (held : Contents) (old new before after : Option (List ℕ)) (wanted : Settings) where
+  pub noted_at : (meant : Settings) (fault : Fault) → wanted ≡ meant → IsNotedAt held old new before after meant fault → IsNotedAt held old new before after wanted fault
+  noted_at meant fault is so = subst (λ w. IsNotedAt held old new before after w fault) (sym is) so
+
+  pub explore_silent : (explore : Sought) (r : Result Judgement Fault) → wanted ≡ Explore explore → IfErr r (λ fault. ComesBeforeScripts fault → after ≡ before)
+      → OnErr r ((after ≡ before) ⊎ AreJudged explore.architecture (nat_lt 0 explore.sample) held explore old new before after) → IfErr r (IsNotedAt held old new before after wanted)
+  explore_silent explore (Ok judgement) is silent judged = tt
+  explore_silent explore (Err fault) is silent judged = noted_at (Explore explore) fault is (silent, judged)
+
+  pub show_silent : (show : Shown) (r : Result Judgement Fault) → wanted ≡ Show show → IfErr r (λ fault. ComesBeforeScripts fault → after ≡ before)
+      → OnErr r ((after ≡ before) ⊎ AreWordsJudged show.explore.architecture held show old new before after) → IfErr r (IsNotedAt held old new before after wanted)
+  show_silent show (Ok judgement) is silent judged = tt
+  show_silent show (Err fault) is silent judged = noted_at (Show show) fault is (silent, judged)
+
+  pub fences_silent : (audit : Audit) (r : Result Judgement Fault) → wanted ≡ Fences audit → after ≡ before → IfErr r (IsNotedAt held old new before after wanted)
+  fences_silent audit (Ok judgement) is same = tt
+  fences_silent audit (Err fault) is same = noted_at (Fences audit) fault is same
+
+  pub check_silent : (check : Judging) (r : Result Judgement Fault) → wanted ≡ Check check → OnErr r (after ≡ before) → IfErr r (IsNotedAt held old new before after wanted)
+  check_silent check (Ok judgement) is same = tt
+  check_silent check (Err fault) is same = noted_at (Check check) fault is same

@@ -87,11 +87,6 @@ told_in (Err fault) = fault
 pub as_told : {T : Type 0} (fault other : Fault) → failed T fault ≡ failed T other → status_of other ≡ 2 → status_of fault ≡ 2
 as_told fault other is two = subst (λ f. status_of f ≡ 2) (sym (ap told_in is)) two
 
--- a fault has one status
-pub not_both : (fault : Fault) → status_of fault ≡ 1 → status_of fault ≡ 2 → ⊥
-not_both fault one two =
-    let bad : 1 ≡ 2 = sym one ∙ two in cc
-
 pub chart_outside : (line : Option Name) (fault : Fault) → IfSome line (λ word. address word.now ≡ None → failed (Unit {0}) fault ≡ failed (Unit {0}) (BadAddress word)) → IsSomeAnd line (λ word. address word.now ≡ None) → status_of fault ≡ 2
 chart_outside None fault unnamed out = absurd out
 chart_outside (Some word) fault unnamed out = as_told fault (BadAddress word) (unnamed out) refl

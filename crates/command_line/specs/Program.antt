@@ -4,7 +4,7 @@ use Rattle.std.specs.Str.{bytes_eq}
 use Rattle.clap.specs.Words.{Text}
 use Rattle.command_files.specs.Contents.{Contents}
 use Rattle.command_line.specs.Running.{AreMisused, HasNamed, HasNoted, IsCarriedOut, IsNotLegal, IsNoted, IsUnprinted, Spares}
-use Rattle.command_line.specs.Telling.{HasToldFault}
+use Rattle.command_line.specs.Telling.{HasToldFault, HasToldMisuse, HasToldWant}
 use Rattle.command_settings.specs.Refusals.{IsFitting, IsForHelp, IsUnfit}
 use Rattle.command_files.specs.declared.allowing.Judgement.TheVariants.{NotAllowed}
 use Rattle.litmus_command.specs.Line.{IsLine}
@@ -23,7 +23,9 @@ pub record IsOfLine (words : List Text) (held left : Contents) (old new before a
   pub judged_noted : status ≡ 3 → HasNamed words (IsNoted held left old new before after NotAllowed)
   pub not_legal : status ≡ 3 → IsNotLegal words held left old new
   pub unprinted : 0 < status → status ≢ 3 → IsUnprinted words held left old new
-  pub faulted : status ≡ 1 → HasToldFault words held left old new
+  pub faulted : status ≡ 1 → HasToldFault words held left old new before after 1
+  pub starved : status ≡ 4 → HasToldWant words held left old new before after
+  pub refused : status ≡ 2 → HasToldMisuse words held left old new before after
   pub misused : status ≡ 2 → (IsUnfit words ⊎ HasNamed words AreMisused) × (new ≡ old)
   pub unfit : ¬ IsFitting words → ¬ IsForHelp words → (status ≡ 2) ⊎ (status ≡ 4)
   pub spared : Spares words held left

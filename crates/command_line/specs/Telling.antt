@@ -1,18 +1,24 @@
 -- Which fault tells why what the words ask for was not done.
-use Rattle.std.specs.Prelude.{◌≡◌, ◌⊎◌, ℕ, Bool, true, false, nat_lt, List, Option}
+use Rattle.std.specs.Prelude.{◌≡◌, ◌≢◌, ◌⊎◌, ℕ, [], Bool, true, false, nat_lt, List, Option}
 use Rattle.clap.specs.Words.{Text}
-use Rattle.explore_command.specs.Searching.{IsSearchFault}
+use Rattle.explore_command.specs.Searching.{IsSearchFault, IsSearchNoted}
+use Rattle.explore_command.specs.Sampling.{SampleRefusals}
 use Rattle.script_commands.specs.Charting.{IsChartFault}
 use Rattle.trace_commands.specs.Checking.{IsCheckFault}
 use Rattle.trace_commands.specs.Messages.{IsLogFault}
 use Rattle.command_files.specs.Faults.{IsReplayFault, LeavesAtFault}
 use Rattle.command_files.specs.Contents.{Contents}
+use Rattle.command_files.specs.Messages.{IsLost, IsToldOf}
 use Rattle.command_files.specs.Status.{status_of}
+use Rattle.command_files.specs.declared.allowing.Judgement.TheVariants.{NotAllowed}
 use Rattle.command_files.specs.declared.fault.Fault.{Fault}
+use Rattle.command_files.specs.declared.fault.Fault.TheVariants.{OutOfMemory}
 use Rattle.command_line.specs.Running.{AreMisused, ExploreHas, HasNamed, ShowHas, IsHalfPrinted, skips, strictness_of}
-use Rattle.command_settings.specs.Refusals.{IsForHelp}
+use Rattle.command_settings.specs.Refusals.{IsForHelp, IsUnfit}
+use Rattle.command_settings.specs.Settings.{AreConflicting}
 use Rattle.command_settings.specs.declared.wanted.Check.{Check as Judging}
 use Rattle.command_settings.specs.declared.wanted.Explain.{Explain as Telling}
+use Rattle.command_settings.specs.declared.wanted.Explore.{Explore as Seeking}
 use Rattle.command_settings.specs.declared.wanted.Settings.{Settings}
 use Rattle.command_settings.specs.declared.wanted.Settings.TheVariants.{Chart, Check, Explain, Explore, Fences, Page, Replay, Run, Show}
 use Rattle.command_settings.specs.declared.wanted.Show.{Show as Showing}
@@ -20,9 +26,10 @@ use Rattle.fences_command.specs.Fencing.{AuditHas, IsFencesFault}
 use Rattle.script_commands.specs.Explaining.{LeavesOfStream}
 use Rattle.trace_commands.specs.Kinds.{IsTellingFault}
 use Rattle.trace_commands.specs.Pages.{IsPageFault, LeavesOfPage}
-use Rattle.explore_command.specs.Exploring.{ComesBeforeScripts, IsExploreFault, LeavesPart}
+use Rattle.explore_command.specs.Exploring.{ComesBeforeScripts, ExplorationRefusals, IsExploreFault, LeavesPart}
 use Rattle.run_command.specs.Running.{ComesBeforeJournal, IsRunFault}
-use Rattle.explore_command.specs.Showing.{IsShowFault}
+use Rattle.explore_command.specs.Showing.{IsShowFault, WordRefusals}
+use Rattle.text_fields.specs.Writing.{Begins}
 
 -- the messages of a trace can't be judged, or its order
 abbrev pub IsJudgingFault : (of_messages : Bool) → Contents → Judging → Fault → Type 0
@@ -76,15 +83,52 @@ ComesBeforeFiles (Show show) fault = ComesBeforeScripts fault
 ComesBeforeFiles (Fences audit) fault = ComesBeforeScripts fault
 ComesBeforeFiles _ fault = Unit {0}
 
--- such a fault, of this status, that left this on standard output, and files as they were where it comes before them; settings that don't go together, a machine out of limits and a word out of place have another status
-pub record HasFault (held left : Contents) (old new : Option (List ℕ)) (status : ℕ) (wanted : Settings) : Type 0 where
+-- what tells which outcomes of an exploration aren't allowed, or a beginning of it; under the memory model, behind what is told of their traces
+abbrev pub AreJudged : (architecture sampled : Bool) → Contents → Seeking → (old new before after : Option (List ℕ)) → Type 0
+AreJudged true sampled held explore old new before after = IsSearchNoted held explore [] explore.window NotAllowed old new before after
+AreJudged false true held explore old new before after = SampleRefusals held explore explore.sample old new (Begins before after)
+AreJudged false false held explore old new before after = ExplorationRefusals held explore old new (Begins before after)
+
+-- the same with words of memory
+abbrev pub AreWordsJudged : (architecture : Bool) → Contents → Showing → (old new before after : Option (List ℕ)) → Type 0
+AreWordsJudged true held show old new before after = IsSearchNoted held show.explore show.words.items show.explore.window NotAllowed old new before after
+AreWordsJudged false held show old new before after = WordRefusals held show old new (Begins before after)
+
+-- before a fault a command puts nothing on standard error; but where scripts are then written, an exploration may have told which outcomes aren't allowed
+abbrev pub IsQuietAt : Fault → (before after : Option (List ℕ)) → (judged : Type 0) → Type 0
+IsQuietAt fault before after judged = (ComesBeforeScripts fault → after ≡ before) × ((after ≡ before) ⊎ judged)
+
+abbrev pub IsNotedAt : Contents → (old new before after : Option (List ℕ)) → Settings → Fault → Type 0
+IsNotedAt held old new before after (Explore explore) fault = IsQuietAt fault before after (AreJudged explore.architecture (nat_lt 0 explore.sample) held explore old new before after)
+IsNotedAt held old new before after (Show show) fault = IsQuietAt fault before after (AreWordsJudged show.explore.architecture held show old new before after)
+IsNotedAt held old new before after _ fault = after ≡ before
+
+-- such a fault, of this status, that left this on standard output, and files as they were where it comes before them; its message went to standard error, behind what the command had put there; settings that don't go together, a machine out of limits and a word out of place have status 2
+pub record HasFault (held left : Contents) (old new before after : Option (List ℕ)) (status : ℕ) (wanted : Settings) : Type 0 where
   pub fault : Fault
   pub told : IsFaultOfCommand held old new wanted fault
   pub leaves : LeavesOf held left old new wanted fault
   pub untouched : ComesBeforeFiles wanted fault → left ≡ held
   pub of_status : status_of fault ≡ status
-  pub inside : ¬ AreMisused wanted
+  pub inside : status ≢ 2 → ¬ AreMisused wanted
+  pub between : Option (List ℕ)
+  pub noted : IsNotedAt held old new before between wanted fault
+  pub message : IsToldOf fault between after
 
--- what the words name has a fault of status 1, or there was help to print
-unfoldable pub HasToldFault : List Text → Contents → Contents → Option (List ℕ) → Option (List ℕ) → Type 0
-HasToldFault words held left old new = IsForHelp words ⊎ HasNamed words (HasFault held left old new 1)
+-- what the words name has a fault of this status, or there was help to print, and standard output took no more
+unfoldable pub HasToldFault : List Text → Contents → Contents → (old new before after : Option (List ℕ)) → (status : ℕ) → Type 0
+HasToldFault words held left old new before after status = (IsForHelp words × IsLost before after status) ⊎ HasNamed words (HasFault held left old new before after status)
+
+-- the words weren't read for want of memory, and nothing was done
+pub record AreUnread (held left : Contents) (old new before after : Option (List ℕ)) : Type 0 where
+  pub stays : left ≡ held
+  pub unprinted : new ≡ old
+  pub message : IsToldOf OutOfMemory before after
+
+-- memory was wanting for the words, or for what they name
+unfoldable pub HasToldWant : List Text → Contents → Contents → (old new before after : Option (List ℕ)) → Type 0
+HasToldWant words held left old new before after = AreUnread held left old new before after ⊎ HasToldFault words held left old new before after 4
+
+-- the usage says why the words don't fit, or their settings don't go together; or what they name has a fault of status 2
+unfoldable pub HasToldMisuse : List Text → Contents → Contents → (old new before after : Option (List ℕ)) → Type 0
+HasToldMisuse words held left old new before after = IsUnfit words ⊎ HasNamed words AreConflicting ⊎ HasNamed words (HasFault held left old new before after 2)

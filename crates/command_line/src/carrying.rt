@@ -1,12 +1,12 @@
 //! What the words ask for is carried out, command by command.
 
-ghost use Rattle.std.specs.Prelude.{◌≡◌, ◌≢◌, ◌⊎◌, ◌<◌, Err, IfErr, IfOk, OnOk, nat_lt};
+ghost use Rattle.std.specs.Prelude.{◌≡◌, ◌≢◌, ◌⊎◌, ◌<◌, Err, IfErr, IfOk, OnErr, OnOk, nat_lt};
 ghost use Rattle.clap.specs.Words.{Text};
 ghost use Rattle.command_files.specs.Faults.{LeavesAtFault, Name};
 ghost use Rattle.command_files.specs.Sizes.{IsOutside};
 ghost use Rattle.command_files.specs.Status.{status_of};
 ghost use Rattle.command_settings.specs.Settings.{asks_tilelink};
-ghost use Rattle.command_line.specs.Telling.{ComesBeforeFiles, IsExplainingFault, IsFaultOfCommand, IsJudgingFault, IsShowingFault, LeavesOf, LeavesOfExplaining};
+ghost use Rattle.command_line.specs.Telling.{AreJudged, AreWordsJudged, ComesBeforeFiles, IsExplainingFault, IsFaultOfCommand, IsJudgingFault, IsNotedAt, IsShowingFault, LeavesOf, LeavesOfExplaining};
 ghost use Rattle.command_line.specs.Running.{Came, CheckCame, CheckNoted, ExplainBroke, ExplainCame, ExploreCame, ExploreHas, ExploreNoted, MeetsSomeState, IsOutOfRange, IsCheckBroken, IsExploreFile, IsNoted, IsWritten, ShowCame, ShowHas, ShowNoted, ShowsElsewhere, message_check_of, profile_of, skips, strictness_of, tells_all};
 ghost use Rattle.explore_command.specs.Exploring.{ComesBeforeScripts, IsExploreFault, LeavesPart};
 ghost use Rattle.explore_command.specs.Keeping.{SparesOthers};
@@ -55,6 +55,7 @@ pub(crate) fn carry_out<
     ensures outside { IfErr result (λ fault. IsOutOfRange wanted.entry → status_of fault ≡ 2) }
     ensures beyond { IfErr result (λ fault. status_of fault ≡ 2 → IsOutOfRange wanted.entry × (O.contents out.new ≡ O.contents out.old)) }
     ensures told { IfErr result (IsFaultOfCommand (F.held files.old) (O.contents out.old) (O.contents out.new) wanted.entry) }
+    ensures silent { IfErr result (IsNotedAt (F.held files.old) (O.contents out.old) (O.contents out.new) (E.contents err.old) (E.contents err.new) wanted.entry) }
     ensures spared { (name : Text) → F.held files.new name ≢ F.held files.old name → IsWritten name wanted.entry }
     ensures untouched { IfErr result (λ fault. ComesBeforeFiles wanted.entry fault → F.held files.new ≡ F.held files.old) }
 {
@@ -125,6 +126,9 @@ fn explored<'a, F: Files, O: Write, E: Write, P: Progress>(
     ensures told { IfErr result (IsExploreFault (F.held files.old) wanted.entry) }
     ensures unfinished { IfErr result (λ fault. LeavesPart fault (O.contents out.old) (O.contents out.new)
         (ExploreHas wanted.entry.architecture (nat_lt 0 wanted.entry.sample) (F.held files.old) wanted.entry)) }
+    ensures silent { IfErr result (λ fault. ComesBeforeScripts fault → E.contents err.new ≡ E.contents err.old) }
+    ensures judged_first { OnErr result ((E.contents err.new ≡ E.contents err.old) ⊎ AreJudged wanted.entry.architecture (nat_lt 0 wanted.entry.sample)
+        (F.held files.old) wanted.entry (O.contents out.old) (O.contents out.new) (E.contents err.old) (E.contents err.new)) }
     ensures spared { SparesOthers (IsExploreFile wanted.entry.architecture wanted.entry) (F.held files.old) (F.held files.new) }
     ensures untouched { IfErr result (λ fault. ComesBeforeScripts fault → F.held files.new ≡ F.held files.old) }
 {
@@ -158,6 +162,9 @@ fn shown<'a, F: Files, O: Write, E: Write, P: Progress>(
     ensures told { IfErr result (IsShowingFault wanted.now.explore.architecture (F.held files.old) wanted.now) }
     ensures unfinished { IfErr result (λ fault. LeavesPart fault (O.contents out.old) (O.contents out.new)
         (ShowHas wanted.now.explore.architecture (F.held files.old) wanted.now)) }
+    ensures silent { IfErr result (λ fault. ComesBeforeScripts fault → E.contents err.new ≡ E.contents err.old) }
+    ensures judged_first { OnErr result ((E.contents err.new ≡ E.contents err.old) ⊎ AreWordsJudged wanted.now.explore.architecture
+        (F.held files.old) wanted.now (O.contents out.old) (O.contents out.new) (E.contents err.old) (E.contents err.new)) }
     ensures spared { SparesOthers (IsExploreFile wanted.now.explore.architecture wanted.now.explore) (F.held files.old) (F.held files.new) }
     ensures untouched { IfErr result (λ fault. ComesBeforeScripts fault → F.held files.new ≡ F.held files.old) }
 {
@@ -192,6 +199,7 @@ fn checked<'a, F: Files, O: Write, E: Write>(
     ensures fitting { IfErr result (λ fault. status_of fault ≢ 2) }
     ensures told { IfErr result (IsJudgingFault wanted.entry.messages (F.held files.old) wanted.entry) }
     ensures noted { IfOk result (λ judgement. CheckNoted judgement wanted.entry.messages (E.contents err.old) (E.contents err.new)) }
+    ensures silent { OnErr result (E.contents err.new ≡ E.contents err.old) }
     ensures spared { F.held files.new ≡ F.held files.old }
 {
     if wanted.messages {

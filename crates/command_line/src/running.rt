@@ -3,8 +3,9 @@
 ghost use Rattle.std.specs.Prelude.{◌≡◌, ◌≢◌, ◌⊎◌, ◌≤◌, ◌<◌, map};
 ghost use Rattle.clap.specs.Words.{kind_of};
 ghost use Rattle.command_settings.specs.Refusals.{IsFitting, IsForHelp, IsHelp, IsUnfit};
+ghost use Rattle.command_files.specs.Messages.{IsLost};
 ghost use Rattle.command_line.specs.Running.{AreMisused, HasNamed, HasNoted, IsCarriedOut, IsNotLegal, IsNoted, IsUnprinted, Spares};
-ghost use Rattle.command_line.specs.Telling.{HasToldFault};
+ghost use Rattle.command_line.specs.Telling.{HasToldFault, HasToldMisuse, HasToldWant};
 
 use crate::carrying::carry_out;
 use command_files::{Fault, Files, Judgement};
@@ -38,7 +39,9 @@ pub fn run_line<
     ensures judged_noted { result ≡ 3 → HasNamed (map S.text words.now) (IsNoted (F.held files.old) (F.held files.new) (O.contents out.old) (O.contents out.new) (E.contents err.old) (E.contents err.new) Judgement.NotAllowed) }
     ensures not_legal { result ≡ 3 → IsNotLegal (map S.text words.now) (F.held files.old) (F.held files.new) (O.contents out.old) (O.contents out.new) }
     ensures unprinted { 0 < result → result ≢ 3 → IsUnprinted (map S.text words.now) (F.held files.old) (F.held files.new) (O.contents out.old) (O.contents out.new) }
-    ensures faulted { result ≡ 1 → HasToldFault (map S.text words.now) (F.held files.old) (F.held files.new) (O.contents out.old) (O.contents out.new) }
+    ensures faulted { result ≡ 1 → HasToldFault (map S.text words.now) (F.held files.old) (F.held files.new) (O.contents out.old) (O.contents out.new) (E.contents err.old) (E.contents err.new) 1 }
+    ensures starved { result ≡ 4 → HasToldWant (map S.text words.now) (F.held files.old) (F.held files.new) (O.contents out.old) (O.contents out.new) (E.contents err.old) (E.contents err.new) }
+    ensures refused { result ≡ 2 → HasToldMisuse (map S.text words.now) (F.held files.old) (F.held files.new) (O.contents out.old) (O.contents out.new) (E.contents err.old) (E.contents err.new) }
     ensures misused { result ≡ 2 → (IsUnfit (map S.text words.now) ⊎ HasNamed (map S.text words.now) AreMisused) × (O.contents out.new ≡ O.contents out.old) }
     ensures unfit { ¬ IsFitting (map S.text words.now) → ¬ IsForHelp (map S.text words.now) → (result ≡ 2) ⊎ (result ≡ 4) }
     ensures spared { Spares (map S.text words.now) (F.held files.old) (F.held files.new) }
@@ -53,8 +56,7 @@ pub fn run_line<
         Err(SettingsError::Usage(usage)) => return explain(&usage, out, err),
         Err(SettingsError::NoMemory) => Fault::OutOfMemory,
     };
-    let _ = writeln!(err, "{fault}");
-    fault.status()
+    fault.tell(err)
 }
 
 /// Help goes to standard output with status 0, a usage fault to standard error with status 2.
@@ -62,6 +64,7 @@ fn explain<O: Write, E: Write>(usage: &clap::Error, out: &mut O, err: &mut E) ->
     ensures status { (result ≤ 4) × (result ≢ 3) }
     ensures help { (result ≡ 2) ⊎ IsHelp (kind_of usage.now) }
     ensures silent { result ≡ 0 → E.contents err.new ≡ E.contents err.old }
+    ensures lost { 0 < result → result ≢ 2 → IsLost (E.contents err.old) (E.contents err.new) result }
     ensures misused { result ≡ 2 → (¬ IsHelp (kind_of usage.now)) × (O.contents out.new ≡ O.contents out.old) }
 {
     if usage.use_stderr() {
@@ -70,10 +73,6 @@ fn explain<O: Write, E: Write>(usage: &clap::Error, out: &mut O, err: &mut E) ->
     }
     match write!(out, "{usage}").and_then(|()| out.flush()) {
         Ok(()) => 0,
-        Err(error) => {
-            let fault = Fault::writing(error);
-            let _ = writeln!(err, "{fault}");
-            fault.status()
-        }
+        Err(error) => Fault::writing(error).tell(err),
     }
 }

@@ -87,6 +87,7 @@ pub fn run_files<'a, R: Threads + Wait + Sync, F: Files, O: Write, E: Write, P: 
 ) -> Result<(), Fault<'a>>
     ensures ran { OnOk result (IsRun (F.held files.old) (F.held files.new) wanted.entry (O.contents out.old) (O.contents out.new)) }
     ensures ends { OnOk result (IsRunEndTold (F.held files.old) (F.held files.new) wanted.entry (E.contents err.old) (E.contents err.new)) }
+    ensures silent { OnErr result (E.contents err.new ≡ E.contents err.old) }
     ensures outside { IsOutside wanted.entry.machine → result ≡ Err Fault.Configuration }
     ensures told { IfErr result (IsRunFault (F.held files.old) wanted.entry) }
     ensures unfinished { IfErr result (λ fault. LeavesAtFault fault (O.contents out.old) (O.contents out.new)

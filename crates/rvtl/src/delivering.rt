@@ -3,6 +3,7 @@
 ghost use Rattle.std.specs.Prelude.{◌≡◌, ◌≢◌, ◌⊎◌, []};
 ghost use Rattle.std.specs.Io.Buffered.{writer_buffer, writer_contents};
 ghost use Rattle.std.specs.Io.KnownBytes.{Keeps};
+ghost use Rattle.command_files.specs.Messages.{IsLost};
 
 use command_files::{Fault, Files};
 use command_line::run_program;
@@ -40,16 +41,14 @@ fn delivered<O: Write + Drop, E: Write>(status: u8, out: &mut BufWriter<O>, err:
     ensures kept { Keeps (writer_contents O.contents out.old) (writer_contents O.contents out.new) }
     ensures same { (result ≡ status) ⊎ ((result ≡ 1) ⊎ (result ≡ 4)) }
     ensures faulted { status ≢ 0 → status ≢ 3 → result ≡ status }
+    ensures silent { result ≡ status → E.contents err.new ≡ E.contents err.old }
+    ensures lost { result ≢ status → IsLost (E.contents err.old) (E.contents err.new) result }
 {
     if status != DONE && status != NOT_LEGAL {
         return status;
     }
     match out.flush() {
         Ok(()) => status,
-        Err(error) => {
-            let fault = Fault::writing(error);
-            let _ = writeln!(err, "{fault}");
-            fault.status()
-        }
+        Err(error) => Fault::writing(error).tell(err),
     }
 }

@@ -1,6 +1,6 @@
 use Rattle.std.proofs.Common.{refl, subst, sym}
 use Rattle.command_files.proofs.Left.{handed_up}
-use Rattle.command_line.proofs.Carried.{all_noted, all_stay, all_told_of, check_beyond, check_came, explore_beyond, explore_came, explore_written, show_beyond, fences_beyond, fences_came, fences_noted, fences_written, show_came, show_written, stay_of, told_of}
+use Rattle.command_line.proofs.Carried.{all_noted, all_stay, all_told_of, check_beyond, check_came, check_silent, explore_beyond, explore_came, explore_silent, explore_written, fences_beyond, fences_came, fences_noted, fences_silent, fences_written, noted_at, show_beyond, show_came, show_silent, show_written, stay_of, told_of}
 use Rattle.command_line.proofs.Meant.{beyond_run, journal_alone, no_address, unwritten}
 use Rattle.command_line.proofs.Leaving.{all_left_of, as_told, chart_inside, chart_outside, check_inside, check_outside, explore_inside, explore_outside, fences_inside, fences_outside, left_of, show_inside, show_outside}
 use Rattle.command_line.specs.Running.{IsOutOfRange, IsDone, IsNoted, IsWritten}
@@ -271,3 +271,32 @@ returns-in-Fences-clause-untouched g c = stay_of _ _ _ _ c.fences_files.result c
 
 pub returns-in-Fences-clause-noted : goal.returns-in-Fences-clause-noted
 returns-in-Fences-clause-noted g c = fences_noted _ _ _ _ _ _ _ c.in-Fences.audit c.fences_files.result c.in-Fences.is refl
+
+-- ---- what stands on standard error before a fault
+
+pub returns-in_err-replay_files-in-Replay-clause-silent : goal.returns-in_err-replay_files-in-Replay-clause-silent
+returns-in_err-replay_files-in-Replay-clause-silent g c = handed_up _ c.from_residual.result _ c.from_residual.ensures.1 (noted_at _ _ _ _ _ _ _ _ c.in-Replay.is c.in_err-replay_files-in-Replay.ensures.silent)
+
+pub returns-in_err-explained-in-Explain-clause-silent : goal.returns-in_err-explained-in-Explain-clause-silent
+returns-in_err-explained-in-Explain-clause-silent g c = handed_up _ c.from_residual-in_err-explained-in-Explain.result _ c.from_residual-in_err-explained-in-Explain.ensures.1 (noted_at _ _ _ _ _ _ _ _ c.in-Explain.is refl)
+
+pub returns-in_err-chart_files-in-Chart-clause-silent : goal.returns-in_err-chart_files-in-Chart-clause-silent
+returns-in_err-chart_files-in-Chart-clause-silent g c = handed_up _ c.from_residual-in_err-chart_files-in-Chart.result _ c.from_residual-in_err-chart_files-in-Chart.ensures.1 (noted_at _ _ _ _ _ _ _ _ c.in-Chart.is refl)
+
+pub returns-in_err-page_files-in-Page-clause-silent : goal.returns-in_err-page_files-in-Page-clause-silent
+returns-in_err-page_files-in-Page-clause-silent g c = handed_up _ c.from_residual-in_err-page_files-in-Page.result _ c.from_residual-in_err-page_files-in-Page.ensures.1 (noted_at _ _ _ _ _ _ _ _ c.in-Page.is refl)
+
+pub returns-in_err-run_files-in-Run-clause-silent : goal.returns-in_err-run_files-in-Run-clause-silent
+returns-in_err-run_files-in-Run-clause-silent g c = handed_up _ c.from_residual-in_err-run_files-in-Run.result _ c.from_residual-in_err-run_files-in-Run.ensures.1 (noted_at _ _ _ _ _ _ _ _ c.in-Run.is c.in_err-run_files-in-Run.ensures.silent)
+
+pub returns-in-Explore-clause-silent : goal.returns-in-Explore-clause-silent
+returns-in-Explore-clause-silent g c = explore_silent _ _ _ _ _ _ c.in-Explore.explore c.explored.result c.in-Explore.is c.explored.ensures.silent c.explored.ensures.judged_first
+
+pub returns-in-Show-clause-silent : goal.returns-in-Show-clause-silent
+returns-in-Show-clause-silent g c = show_silent _ _ _ _ _ _ c.in-Show.show c.shown.result c.in-Show.is c.shown.ensures.silent c.shown.ensures.judged_first
+
+pub returns-in-Fences-clause-silent : goal.returns-in-Fences-clause-silent
+returns-in-Fences-clause-silent g c = fences_silent _ _ _ _ _ _ c.in-Fences.audit c.fences_files.result c.in-Fences.is refl
+
+pub returns-in-Check-clause-silent : goal.returns-in-Check-clause-silent
+returns-in-Check-clause-silent g c = check_silent _ _ _ _ _ _ c.in-Check.check c.checked.result c.in-Check.is c.checked.ensures.silent

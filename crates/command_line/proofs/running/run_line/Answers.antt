@@ -1,13 +1,16 @@
-use Rattle.std.proofs.Common.{◌≡◌, ◌∙◌, ◌⊎◌, ℕ, List, Option, inl, inr, refl, rules, subst, sym}
+use Rattle.std.proofs.Common.{◌≡◌, ◌≢◌, ◌∙◌, ◌<◌, ◌⊎◌, ℕ, List, Option, arith, inl, inr, refl, rules, subst, sym}
 use Rattle.clap.specs.Words.{Text, kind_of}
 use Rattle.clap.specs.declared.error.Error.{Error}
 use Rattle.clap.specs.declared.error.kind.ErrorKind.{ErrorKind}
 use Rattle.clap.specs.declared.error.kind.ErrorKind.TheVariants.{ArgumentConflict, DisplayHelp, DisplayVersion}
 use Rattle.command_files.specs.Contents.{Contents}
-use Rattle.command_line.proofs.Leaving.{either_of, not_both}
+use Rattle.command_files.specs.Messages.{IsLost, IsToldOf}
+use Rattle.command_files.specs.Status.{status_of}
+use Rattle.command_files.specs.declared.fault.Fault.{Fault}
+use Rattle.command_line.proofs.Leaving.{either_of}
 use Rattle.command_line.proofs.Meant.{misused_early, some_states}
 use Rattle.command_line.specs.Running.{AreMisused, Came, HasNamed, HasNoted, IsHalfPrinted, IsCarriedOut, IsNotLegal, IsNoted, IsOutOfRange, IsUnprinted}
-use Rattle.command_line.specs.Telling.{HasToldFault}
+use Rattle.command_line.specs.Telling.{ComesBeforeFiles, HasFault, HasToldFault, HasToldMisuse, HasToldWant, IsFaultOfCommand, IsNotedAt, LeavesOf}
 use Rattle.command_settings.specs.Refusals.{IsFitting, IsForHelp, IsHelp, IsRefused, IsUnfit}
 use Rattle.command_settings.specs.Settings.{AreConflicting, IsNamed}
 use Rattle.command_settings.specs.declared.wanted.Settings.{Settings}
@@ -29,13 +32,21 @@ is_for_help words refusal usage is refused asks =
     never kind is (inl help) = let bad : ArgumentConflict ≡ DisplayHelp = sym is ∙ help in cc
     never kind is (inr version) = let bad : ArgumentConflict ≡ DisplayVersion = sym is ∙ version in cc
 
-misused : (words : List Text) (refusal : SettingsError) (usage : Error) → refusal ≡ Usage usage → IsRefused words refusal → ¬ IsHelp (kind_of usage) → IsUnfit words ⊎ HasNamed words AreMisused
-misused words refusal usage is refused other =
+refused_words : (words : List Text) (refusal : SettingsError) (usage : Error) → refusal ≡ Usage usage → IsRefused words refusal → ¬ IsHelp (kind_of usage) → IsUnfit words ⊎ HasNamed words AreConflicting
+refused_words words refusal usage is refused other =
     let told : IsRefused words (Usage usage) = subst (IsRefused words) is refused in
     elim told [
       | inl kinds ↦ inl (kinds.0, kinds.1, (kind_of usage, kinds.2, other))
-      | inr conflict ↦ let found = conflict.1 in inr (found.0, found.1, found.2, inl found.3)
+      | inr conflict ↦ let found = conflict.1 in inr (found.0, found.1, found.2, found.3)
     ]
+
+misused : (words : List Text) → IsUnfit words ⊎ HasNamed words AreConflicting → IsUnfit words ⊎ HasNamed words AreMisused
+misused words (inl unfit) = inl unfit
+misused words (inr found) = inr (found.0, found.1, found.2, inl found.3)
+
+either_misuse : (words : List Text) (Other : Type 0) → IsUnfit words ⊎ HasNamed words AreConflicting → IsUnfit words ⊎ HasNamed words AreConflicting ⊎ Other
+either_misuse words Other (inl unfit) = inl unfit
+either_misuse words Other (inr found) = inr (inl found)
 
 -- settings that go together and are in range
 well_used : (wanted : Settings) → (AreConflicting wanted → ⊥) → ¬ IsOutOfRange wanted → ¬ AreMisused wanted
@@ -49,6 +60,30 @@ stopped words held left old new wanted named fitting so = elim so [
   | inl same ↦ inl same
   | inr broken ↦ inr (inr (wanted, named, fitting, broken))
 ]
+
+lost_as : (before after : Option (List ℕ)) (status n : ℕ) → status ≡ n → 0 < n → n ≢ 2 → (0 < status → status ≢ 2 → IsLost before after status) → IsLost before after n
+lost_as before after status n is some other lost = subst (IsLost before after) is (lost (subst (λ (k : ℕ). 0 < k) (sym is) some) (λ two. other (sym is ∙ two)))
+
+-- a fault of what the words name, and its message behind what the command had put there
+has_fault : (words : List Text) (held left : Contents) (old new before between after : Option (List ℕ)) (n : ℕ) (wanted : Settings) (fault : Fault) → IsNamed words wanted → IsFitting words → (AreConflicting wanted → ⊥)
+    → IsFaultOfCommand held old new wanted fault → LeavesOf held left old new wanted fault → (ComesBeforeFiles wanted fault → left ≡ held) → (IsOutOfRange wanted → status_of fault ≡ 2)
+    → IsNotedAt held old new before between wanted fault → IsToldOf fault between after → status_of fault ≡ n → HasNamed words (HasFault held left old new before after n)
+has_fault words held left old new before between after n wanted fault named fitting agreeing told leaves untouched outside noted message is = (
+  wanted,
+  named,
+  fitting,
+  record {
+    fault = fault;
+    told = told;
+    leaves = leaves;
+    untouched = untouched;
+    of_status = is;
+    inside = λ other. well_used wanted agreeing (λ out. other (sym is ∙ outside out));
+    between = between;
+    noted = noted;
+    message = message;
+  },
+)
 
 pub carry_out-requires : goal.carry_out-requires
 carry_out-requires g c = (search rules, (search rules, some_states _ c.in-Ok.wanted c.in-Ok.ensures.named))
@@ -121,14 +156,14 @@ returns-clause-unprinted g c = λ some other. elim c.match-settings.branch [
 pub returns-in-Err-Usage-clause-misused : goal.returns-in-Err-Usage-clause-misused
 returns-in-Err-Usage-clause-misused g c = λ two.
     let told = rw c.in-Err-Usage.field-0-is at c.explain.ensures.misused two in
-    (misused _ c.in-Err-Usage.field-0 c.in-Err-Usage.usage c.in-Err-Usage.field-0-is c.in-Err-Usage.ensures.refused told.0, told.1)
+    (misused _ (refused_words _ c.in-Err-Usage.field-0 c.in-Err-Usage.usage c.in-Err-Usage.field-0-is c.in-Err-Usage.ensures.refused told.0), told.1)
 
 pub returns-clause-misused : goal.returns-clause-misused
 returns-clause-misused g c = λ two. elim c.match-settings.branch [
   | in-Ok+in-Err w ↦ rw (w.out-is)
-      (let told = w.in-Err.ensures.beyond (rw (← w.fault-is) (sym c.status.ensures ∙ two)) in (inr (w.in-Ok.wanted, w.in-Ok.ensures.named, w.in-Ok.ensures.fitting, inr told.0), told.1))
+      (let told = w.in-Err.ensures.beyond (rw (← w.fault-is) (sym c.tell.ensures.status ∙ two)) in (inr (w.in-Ok.wanted, w.in-Ok.ensures.named, w.in-Ok.ensures.fitting, inr told.0), told.1))
   | in-Err-NoMemory w ↦
-      let four : c.status.result ≡ 4 = rw w.fault-is at c.status.ensures in
+      let four : c.tell.result ≡ 4 = rw w.fault-is at c.tell.ensures.status in
       let bad : 4 ≡ 2 = sym four ∙ two in cc
 ]
 
@@ -141,7 +176,7 @@ returns-clause-spared g c = elim c.match-settings.branch [
 -- a fault of status 2 comes before any file is written
 pub returns-clause-untouched : goal.returns-clause-untouched
 returns-clause-untouched g c = λ two. elim c.match-settings.branch [
-  | in-Ok+in-Err w ↦ rw (w.files-is) (w.in-Err.ensures.untouched (misused_early w.in-Ok.wanted w.in-Err.fault (rw (← w.fault-is) (sym c.status.ensures ∙ two))))
+  | in-Ok+in-Err w ↦ rw (w.files-is) (w.in-Err.ensures.untouched (misused_early w.in-Ok.wanted w.in-Err.fault (rw (← w.fault-is) (sym c.tell.ensures.status ∙ two))))
   | in-Err-NoMemory w ↦ rw (w.files-is) refl
 ]
 
@@ -162,7 +197,7 @@ pub returns-clause-unfit : goal.returns-clause-unfit
 returns-clause-unfit g c = λ unfit no_help. elim c.match-settings.branch [
   | in-Ok+in-Err w ↦ absurd (unfit w.in-Ok.ensures.fitting)
   | in-Err-NoMemory w ↦
-      let four : c.status.result ≡ 4 = rw w.fault-is at c.status.ensures in inr four
+      let four : c.tell.result ≡ 4 = rw w.fault-is at c.tell.ensures.status in inr four
 ]
 
 -- status 1 is that of a fault of what the words name, or of help that did not go out
@@ -176,26 +211,60 @@ pub returns-in-Err-Usage-clause-faulted : goal.returns-in-Err-Usage-clause-fault
 unfolding HasToldFault
 returns-in-Err-Usage-clause-faulted g c = λ one. elim (rw c.in-Err-Usage.field-0-is at c.explain.ensures.help) [
   | inl two ↦ let no : 1 ≡ 2 = sym one ∙ two in cc
-  | inr asks ↦ inl (is_for_help _ c.in-Err-Usage.field-0 c.in-Err-Usage.usage c.in-Err-Usage.field-0-is c.in-Err-Usage.ensures.refused asks)
+  | inr asks ↦ inl (is_for_help _ c.in-Err-Usage.field-0 c.in-Err-Usage.usage c.in-Err-Usage.field-0-is c.in-Err-Usage.ensures.refused asks, lost_as _ _ c.explain.result 1 one (omega arith) (λ bad. cc) c.explain.ensures.lost)
 ]
 
 pub returns-clause-faulted : goal.returns-clause-faulted
 unfolding HasToldFault
 returns-clause-faulted g c = λ one. elim c.match-settings.branch [
-  | in-Ok+in-Err w ↦ rw (w.out-is, w.files-is) (inr (
-    w.in-Ok.wanted,
-    w.in-Ok.ensures.named,
-    w.in-Ok.ensures.fitting,
-    record {
-      fault = w.in-Err.fault;
-      told = w.in-Err.ensures.told;
-      leaves = w.in-Err.ensures.leaves;
-      untouched = w.in-Err.ensures.untouched;
-      of_status = rw (← w.fault-is) (sym c.status.ensures ∙ one);
-      inside = well_used w.in-Ok.wanted w.in-Ok.ensures.agreeing (λ out. not_both w.in-Err.fault (rw (← w.fault-is) (sym c.status.ensures ∙ one)) (w.in-Err.ensures.outside out));
-    },
-  ))
+  | in-Ok+in-Err w ↦ rw (w.out-is, w.files-is) (inr (has_fault _ _ _ _ _ _ _ _ 1 w.in-Ok.wanted w.in-Err.fault w.in-Ok.ensures.named w.in-Ok.ensures.fitting w.in-Ok.ensures.agreeing w.in-Err.ensures.told w.in-Err.ensures.leaves
+    w.in-Err.ensures.untouched w.in-Err.ensures.outside w.in-Err.ensures.silent (rw (w.fault-is, w.err-is) at c.tell.ensures.told) (rw (← w.fault-is) (sym c.tell.ensures.status ∙ one))))
   | in-Err-NoMemory w ↦
-      let four : c.status.result ≡ 4 = rw w.fault-is at c.status.ensures in
+      let four : c.tell.result ≡ 4 = rw w.fault-is at c.tell.ensures.status in
       let bad : 4 ≡ 1 = sym four ∙ one in cc
+]
+
+-- status 4 is that of want of memory, for the words, for help, or for what the words name
+pub returns-in-Ok-Allowed-clause-starved : goal.returns-in-Ok-Allowed-clause-starved
+returns-in-Ok-Allowed-clause-starved g c = λ four. let bad : 0 ≡ 4 = four in cc
+
+pub returns-in-Ok-NotAllowed-clause-starved : goal.returns-in-Ok-NotAllowed-clause-starved
+returns-in-Ok-NotAllowed-clause-starved g c = λ four. let bad : 3 ≡ 4 = four in cc
+
+pub returns-in-Err-Usage-clause-starved : goal.returns-in-Err-Usage-clause-starved
+unfolding HasToldWant, HasToldFault
+returns-in-Err-Usage-clause-starved g c = λ four. elim (rw c.in-Err-Usage.field-0-is at c.explain.ensures.help) [
+  | inl two ↦ let no : 4 ≡ 2 = sym four ∙ two in cc
+  | inr asks ↦ inr (inl (is_for_help _ c.in-Err-Usage.field-0 c.in-Err-Usage.usage c.in-Err-Usage.field-0-is c.in-Err-Usage.ensures.refused asks, lost_as _ _ c.explain.result 4 four (omega arith) (λ bad. cc) c.explain.ensures.lost))
+]
+
+pub returns-clause-starved : goal.returns-clause-starved
+unfolding HasToldWant, HasToldFault
+returns-clause-starved g c = λ four. elim c.match-settings.branch [
+  | in-Ok+in-Err w ↦ rw (w.out-is, w.files-is) (inr (inr (has_fault _ _ _ _ _ _ _ _ 4 w.in-Ok.wanted w.in-Err.fault w.in-Ok.ensures.named w.in-Ok.ensures.fitting w.in-Ok.ensures.agreeing w.in-Err.ensures.told w.in-Err.ensures.leaves
+    w.in-Err.ensures.untouched w.in-Err.ensures.outside w.in-Err.ensures.silent (rw (w.fault-is, w.err-is) at c.tell.ensures.told) (rw (← w.fault-is) (sym c.tell.ensures.status ∙ four)))))
+  | in-Err-NoMemory w ↦ rw (w.out-is, w.files-is) (inl (record { stays = refl; unprinted = refl; message = rw (w.fault-is, w.err-is) at c.tell.ensures.told }))
+]
+
+-- status 2 is that of words that don't fit, or of a fault of what they name
+pub returns-in-Ok-Allowed-clause-refused : goal.returns-in-Ok-Allowed-clause-refused
+returns-in-Ok-Allowed-clause-refused g c = λ two. let bad : 0 ≡ 2 = two in cc
+
+pub returns-in-Ok-NotAllowed-clause-refused : goal.returns-in-Ok-NotAllowed-clause-refused
+returns-in-Ok-NotAllowed-clause-refused g c = λ two. let bad : 3 ≡ 2 = two in cc
+
+pub returns-in-Err-Usage-clause-refused : goal.returns-in-Err-Usage-clause-refused
+unfolding HasToldMisuse
+returns-in-Err-Usage-clause-refused g c = λ two.
+    let told = rw c.in-Err-Usage.field-0-is at c.explain.ensures.misused two in
+    either_misuse _ _ (refused_words _ c.in-Err-Usage.field-0 c.in-Err-Usage.usage c.in-Err-Usage.field-0-is c.in-Err-Usage.ensures.refused told.0)
+
+pub returns-clause-refused : goal.returns-clause-refused
+unfolding HasToldMisuse
+returns-clause-refused g c = λ two. elim c.match-settings.branch [
+  | in-Ok+in-Err w ↦ rw (w.out-is, w.files-is) (inr (inr (has_fault _ _ _ _ _ _ _ _ 2 w.in-Ok.wanted w.in-Err.fault w.in-Ok.ensures.named w.in-Ok.ensures.fitting w.in-Ok.ensures.agreeing w.in-Err.ensures.told w.in-Err.ensures.leaves
+    w.in-Err.ensures.untouched w.in-Err.ensures.outside w.in-Err.ensures.silent (rw (w.fault-is, w.err-is) at c.tell.ensures.told) (rw (← w.fault-is) (sym c.tell.ensures.status ∙ two)))))
+  | in-Err-NoMemory w ↦
+      let four : c.tell.result ≡ 4 = rw w.fault-is at c.tell.ensures.status in
+      let bad : 4 ≡ 2 = sym four ∙ two in cc
 ]
