@@ -9,7 +9,6 @@ mod fault;
 mod files;
 mod input;
 mod machines;
-mod message;
 mod no_outcomes;
 mod reading;
 mod remarked;

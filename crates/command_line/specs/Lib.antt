@@ -2,3 +2,4 @@ pub mod Running
 pub mod Telling
 pub mod Runs
 pub mod Program
+pub mod Messages

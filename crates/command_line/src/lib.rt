@@ -4,9 +4,11 @@
 
 mod carrying;
 mod laws;
+mod message;
 mod program;
 mod running;
 
 pub use laws::runs_replay;
+pub use message::tell;
 pub use program::run_program;
 pub use running::run_line;

@@ -3,11 +3,12 @@
 ghost use Rattle.std.specs.Prelude.{◌≡◌, ◌≢◌, ◌⊎◌, ◌≤◌, ◌<◌, map};
 ghost use Rattle.clap.specs.Words.{kind_of};
 ghost use Rattle.command_settings.specs.Refusals.{IsFitting, IsForHelp, IsHelp, IsUnfit};
-ghost use Rattle.command_files.specs.Messages.{IsLost};
+ghost use Rattle.command_line.specs.Messages.{IsLost};
 ghost use Rattle.command_line.specs.Running.{AreMisused, HasNamed, HasNoted, IsCarriedOut, IsNotLegal, IsNoted, IsUnprinted, Spares};
 ghost use Rattle.command_line.specs.Telling.{HasToldFault, HasToldMisuse, HasToldWant};
 
 use crate::carrying::carry_out;
+use crate::message::tell;
 use command_files::{Fault, Files, Judgement};
 use command_settings::{SettingsError, settings};
 use progress_line::Progress;
@@ -56,7 +57,7 @@ pub fn run_line<
         Err(SettingsError::Usage(usage)) => return explain(&usage, out, err),
         Err(SettingsError::NoMemory) => Fault::OutOfMemory,
     };
-    fault.tell(err)
+    tell(&fault, err)
 }
 
 /// Help goes to standard output with status 0, a usage fault to standard error with status 2.
@@ -73,6 +74,6 @@ fn explain<O: Write, E: Write>(usage: &clap::Error, out: &mut O, err: &mut E) ->
     }
     match write!(out, "{usage}").and_then(|()| out.flush()) {
         Ok(()) => 0,
-        Err(error) => Fault::writing(error).tell(err),
+        Err(error) => tell(&Fault::writing(error), err),
     }
 }

@@ -44,7 +44,7 @@ fn read<F: Files, E: Write>(
         Ok(bytes) => Ok(bytes),
         Err(Fault::OutOfMemory) => Err(Ended::NoMemory),
         Err(fault) => {
-            let _ = fault.put(err);
+            let _ = writeln!(err, "{fault}");
             Err(Ended::Failed)
         }
     }

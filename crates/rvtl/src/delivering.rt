@@ -3,10 +3,10 @@
 ghost use Rattle.std.specs.Prelude.{◌≡◌, ◌≢◌, ◌⊎◌, []};
 ghost use Rattle.std.specs.Io.Buffered.{writer_buffer, writer_contents};
 ghost use Rattle.std.specs.Io.KnownBytes.{Keeps};
-ghost use Rattle.command_files.specs.Messages.{IsLost};
+ghost use Rattle.command_line.specs.Messages.{IsLost};
 
 use command_files::{Fault, Files};
-use command_line::run_program;
+use command_line::{run_program, tell};
 use progress_line::Progress;
 use std::convert::AsStr;
 use std::io::{BufWriter, Write};
@@ -49,6 +49,6 @@ fn delivered<O: Write + Drop, E: Write>(status: u8, out: &mut BufWriter<O>, err:
     }
     match out.flush() {
         Ok(()) => status,
-        Err(error) => Fault::writing(error).tell(err),
+        Err(error) => tell(&Fault::writing(error), err),
     }
 }

@@ -1,14 +1,13 @@
 //! The program's message for a fault.
 
 ghost use Rattle.std.specs.Prelude.{◌≡◌, ◌++◌, IsTrue, codes};
-ghost use Rattle.command_files.specs.Messages.{HasPlainName, IsToldOf, apply_error_name, check_error_name, fault_line, fault_text, is_plain, is_plain_byte, line_text, load_error_name, numbered_cause, text_code_name, unshown_text};
+ghost use Rattle.command_line.specs.Messages.{HasPlainName, IsToldOf, apply_error_name, check_error_name, fault_line, fault_text, is_plain, is_plain_byte, line_text, load_error_name, numbered_cause, text_code_name, unshown_text};
 ghost use Rattle.command_files.specs.Status.{status_of};
 ghost use Rattle.text_fields.specs.Writing.{Writes, pieces};
 
-use crate::escaped::Escaped;
-use crate::fault::{Fault, Unshown};
+use coherent_machine::ApplyError;
+use command_files::{Escaped, Fault, Unshown};
 use elf_loader::LoadError;
-use event_stream::coherent_machine::ApplyError;
 use event_stream::outcome_name;
 use machine_types::Outcome;
 use rvwmo_order::CheckError;
@@ -17,48 +16,46 @@ use text_fields::Piece::{Number, Text, Word};
 use text_fields::{Piece, put, put_pieces};
 use trace_text::{TextCode, TextError};
 
-impl Fault<'_> {
-    /// Puts the fault's message, one line. What would end it or steer a terminal is escaped in a file's name.
-    pub fn put<E: Write>(&self, err: &mut E) -> io::Result<()>
-        ensures { HasPlainName self.now → Writes (E.contents err.old) (E.contents err.new) (fault_line self.now) result }
-    {
-        self.put_text(err)?;
-        put(err, b"\n")
-    }
+/// Puts a fault's message on standard error as far as that takes it, and answers the program's exit status.
+pub fn tell<E: Write>(fault: &Fault<'_>, err: &mut E) -> u8
+    ensures told { IsToldOf fault.now (E.contents err.old) (E.contents err.new) }
+    ensures status { result ≡ status_of fault.now }
+{
+    // Standard error has no other place to tell that it takes no more.
+    let _ = put_fault(fault, err);
+    fault.status()
+}
 
-    /// Puts the message as far as there is room for it, and answers the program's exit status.
-    pub fn tell<E: Write>(&self, err: &mut E) -> u8
-        ensures told { IsToldOf self.now (E.contents err.old) (E.contents err.new) }
-        ensures status { result ≡ status_of self.now }
-    {
-        // Standard error has no other place to tell that it takes no more.
-        let _ = self.put(err);
-        self.status()
-    }
+/// Puts a fault's message, one line. What would end it or steer a terminal is escaped in a file's name.
+fn put_fault<E: Write>(fault: &Fault<'_>, err: &mut E) -> io::Result<()>
+    ensures { HasPlainName fault.now → Writes (E.contents err.old) (E.contents err.new) (fault_line fault.now) result }
+{
+    put_text(fault, err)?;
+    put(err, b"\n")
+}
 
-    fn put_text<E: Write>(&self, err: &mut E) -> io::Result<()>
-        ensures { HasPlainName self.now → Writes (E.contents err.old) (E.contents err.new) (fault_text self.now) result }
-    {
-        match self {
-            Fault::CannotRead { file } => put_of(file, b": cannot read", err),
-            Fault::CannotMake { file } => put_of(file, b": cannot write", err),
-            Fault::CannotWrite => put(err, b"rvtl: cannot write"),
-            Fault::Image { file, error } => put_image_fault(file, *error, err),
-            Fault::Text { file, error } => put_text_fault(file, *error, err),
-            Fault::Event { file, line, error } => put_event_fault(file, *line, *error, err),
-            Fault::NothingHappens { file, line, outcome } => put_idle(file, *line, *outcome, err),
-            Fault::BytesAfterTrace { file } => put_of(file, b": bytes after the trace", err),
-            Fault::Check { file, error } => put_check_fault(file, *error, err),
-            Fault::OtherImage { file, address } => put_other_image(file, *address, err),
-            Fault::TooManyRows { file } => put_of(file, b": too much to draw (400 rows, or 65535 lines of text, at most): choose less by --line, or by a shorter script", err),
-            Fault::BadAddress { word } => put_bad_address(word, err),
-            Fault::CannotShow { word, cause } => put_unshown(word, *cause, err),
-            Fault::NoThread => put(err, b"rvtl: cannot start a thread"),
-            Fault::Mismatch => put(err, b"rvtl: fabric mismatch"),
-            Fault::BadEvent => put(err, b"rvtl: bad event"),
-            Fault::Configuration => put(err, b"rvtl: bad configuration"),
-            Fault::OutOfMemory => put(err, b"rvtl: out of memory"),
-        }
+fn put_text<E: Write>(fault: &Fault<'_>, err: &mut E) -> io::Result<()>
+    ensures { HasPlainName fault.now → Writes (E.contents err.old) (E.contents err.new) (fault_text fault.now) result }
+{
+    match fault {
+        Fault::CannotRead { file } => put_of(file, b": cannot read", err),
+        Fault::CannotMake { file } => put_of(file, b": cannot write", err),
+        Fault::CannotWrite => put(err, b"rvtl: cannot write"),
+        Fault::Image { file, error } => put_image_fault(file, *error, err),
+        Fault::Text { file, error } => put_text_fault(file, *error, err),
+        Fault::Event { file, line, error } => put_event_fault(file, *line, *error, err),
+        Fault::NothingHappens { file, line, outcome } => put_idle(file, *line, *outcome, err),
+        Fault::BytesAfterTrace { file } => put_of(file, b": bytes after the trace", err),
+        Fault::Check { file, error } => put_check_fault(file, *error, err),
+        Fault::OtherImage { file, address } => put_other_image(file, *address, err),
+        Fault::TooManyRows { file } => put_of(file, b": too much to draw (400 rows, or 65535 lines of text, at most): choose less by --line, or by a shorter script", err),
+        Fault::BadAddress { word } => put_bad_address(word, err),
+        Fault::CannotShow { word, cause } => put_unshown(word, *cause, err),
+        Fault::NoThread => put(err, b"rvtl: cannot start a thread"),
+        Fault::Mismatch => put(err, b"rvtl: fabric mismatch"),
+        Fault::BadEvent => put(err, b"rvtl: bad event"),
+        Fault::Configuration => put(err, b"rvtl: bad configuration"),
+        Fault::OutOfMemory => put(err, b"rvtl: out of memory"),
     }
 }
 
