@@ -9,6 +9,6 @@ mod program;
 mod running;
 
 pub use laws::runs_replay;
-pub use message::tell;
+pub use message::{tell, tell_lost};
 pub use program::run_program;
 pub use running::run_line;

@@ -1,7 +1,7 @@
 //! The program's message for a fault.
 
-ghost use Rattle.std.specs.Prelude.{◌≡◌, ◌++◌, IsTrue, codes};
-ghost use Rattle.command_line.specs.Messages.{HasPlainName, IsToldOf, apply_error_name, check_error_name, fault_line, fault_text, is_plain, is_plain_byte, line_text, load_error_name, numbered_cause, text_code_name, unshown_text};
+ghost use Rattle.std.specs.Prelude.{◌≡◌, ◌⊎◌, ◌++◌, IsTrue, codes};
+ghost use Rattle.command_line.specs.Messages.{HasPlainName, IsLost, IsToldOf, apply_error_name, check_error_name, fault_line, fault_text, is_plain, is_plain_byte, line_text, load_error_name, numbered_cause, text_code_name, unshown_text};
 ghost use Rattle.command_files.specs.Status.{status_of};
 ghost use Rattle.text_fields.specs.Writing.{Writes, pieces};
 
@@ -24,6 +24,14 @@ pub fn tell<E: Write>(fault: &Fault<'_>, err: &mut E) -> u8
     // Standard error has no other place to tell that it takes no more.
     let _ = put_fault(fault, err);
     fault.status()
+}
+
+/// Tells that standard output took no more, and answers the program's exit status.
+pub fn tell_lost<E: Write>(error: io::Error, err: &mut E) -> u8
+    ensures lost { IsLost (E.contents err.old) (E.contents err.new) result }
+    ensures status { (result ≡ 1) ⊎ (result ≡ 4) }
+{
+    tell(&Fault::writing(error), err)
 }
 
 /// Puts a fault's message, one line. What would end it or steer a terminal is escaped in a file's name.

@@ -8,7 +8,7 @@ ghost use Rattle.command_line.specs.Running.{AreMisused, HasNamed, HasNoted, IsC
 ghost use Rattle.command_line.specs.Telling.{HasToldFault, HasToldMisuse, HasToldWant};
 
 use crate::carrying::carry_out;
-use crate::message::tell;
+use crate::message::{tell, tell_lost};
 use command_files::{Fault, Files, Judgement};
 use command_settings::{SettingsError, settings};
 use progress_line::Progress;
@@ -74,6 +74,6 @@ fn explain<O: Write, E: Write>(usage: &clap::Error, out: &mut O, err: &mut E) ->
     }
     match write!(out, "{usage}").and_then(|()| out.flush()) {
         Ok(()) => 0,
-        Err(error) => tell(&Fault::writing(error), err),
+        Err(error) => tell_lost(error, err),
     }
 }

@@ -5,8 +5,8 @@ ghost use Rattle.std.specs.Io.Buffered.{writer_buffer, writer_contents};
 ghost use Rattle.std.specs.Io.KnownBytes.{Keeps};
 ghost use Rattle.command_line.specs.Messages.{IsLost};
 
-use command_files::{Fault, Files};
-use command_line::{run_program, tell};
+use command_files::Files;
+use command_line::{run_program, tell_lost};
 use progress_line::Progress;
 use std::convert::AsStr;
 use std::io::{BufWriter, Write};
@@ -49,6 +49,6 @@ fn delivered<O: Write + Drop, E: Write>(status: u8, out: &mut BufWriter<O>, err:
     }
     match out.flush() {
         Ok(()) => status,
-        Err(error) => tell(&Fault::writing(error), err),
+        Err(error) => tell_lost(error, err),
     }
 }
