@@ -3,6 +3,7 @@
 
 mod checking;
 mod messages;
+mod objecting;
 mod reading;
 
 pub use checking::{check_file, remark_unjudged};

@@ -14,16 +14,16 @@ ghost use Rattle.command_files.specs.Faults.{LeavesAtFault};
 ghost use Rattle.trace_text.specs.TraceLimits.{IsTrace};
 ghost use Rattle.trace_text.specs.Traces as traces;
 
+use crate::objecting::{Told, told_of};
 use crate::reading::whole_trace;
 use command_files::{Escaped, Fault, Files, remark, text_in};
 use elf_loader::Image;
 use log_text::message_judge::{
-    Breaches, Broken, MessageBreach, MessageVerdict, Profile, judge_ended, judge_messages,
-    list_breaches,
+    Breaches, Broken, MessageVerdict, Profile, judge_ended, judge_messages, list_breaches,
 };
 use log_text::{
-    Contradiction, LogText, Objection, Place, Unanswered, end_text, foreign_messages, meant_text,
-    misnamed_line, put_told, source_line, without_names,
+    LogText, Place, Unanswered, end_text, foreign_messages, meant_text, misnamed_line, put_told,
+    source_line, without_names,
 };
 use open_questions::left_open;
 use std::alloc::{AllocError, Global};
@@ -417,29 +417,15 @@ fn put_breach<E: Write>(
     broken: Broken,
     err: &mut E,
 ) -> io::Result<()> {
-    let name = Escaped(log.file);
-    let entries = log.trace.log();
-    let index = broken.index;
-    let Some(place) = Place::of(text, index) else {
+    let JudgedLog {
+        file,
+        trace,
+        profile,
+    } = log;
+    let harts = trace.harts() as u8;
+    let Some(told) = told_of(trace.log(), profile, harts, text, broken) else {
         return Ok(());
     };
-    match broken.breach {
-        MessageBreach::Unlawful(rule) => {
-            let harts = log.trace.harts() as u8;
-            match Objection::to(entries, log.profile, rule, index, harts) {
-                Some(objection) => writeln!(err, "rvtl: {name}: {place}: {objection}"),
-                None => Ok(()),
-            }
-        }
-        MessageBreach::Incoherent(breach) => {
-            match Contradiction::of(text, entries, breach, index) {
-                Some(contradiction) => writeln!(err, "rvtl: {name}: {place}: {contradiction}"),
-                None => Ok(()),
-            }
-        }
-        MessageBreach::Unanswered => match Unanswered::of(entries, index) {
-            Some(question) => writeln!(err, "rvtl: {name}: {place}: {question}"),
-            None => Ok(()),
-        },
-    }
+    let Told { place, cause } = told;
+    writeln!(err, "rvtl: {}: {place}: {cause}", Escaped(file))
 }

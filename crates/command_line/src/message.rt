@@ -52,11 +52,15 @@ fn put_text<E: Write>(fault: &Fault<'_>, err: &mut E) -> io::Result<()>
         Fault::Image { file, error } => put_image_fault(file, *error, err),
         Fault::Text { file, error } => put_text_fault(file, *error, err),
         Fault::Event { file, line, error } => put_event_fault(file, *line, *error, err),
-        Fault::NothingHappens { file, line, outcome } => put_idle(file, *line, *outcome, err),
+        Fault::NothingHappens {
+            file,
+            line,
+            outcome,
+        } => put_idle(file, *line, *outcome, err),
         Fault::BytesAfterTrace { file } => put_of(file, b": bytes after the trace", err),
         Fault::Check { file, error } => put_check_fault(file, *error, err),
         Fault::OtherImage { file, address } => put_other_image(file, *address, err),
-        Fault::TooManyRows { file } => put_of(file, b": too much to draw (400 rows, or 65535 lines of text, at most): choose less by --line, or by a shorter script", err),
+        Fault::TooManyRows { file } => put_too_many_rows(file, err),
         Fault::BadAddress { word } => put_bad_address(word, err),
         Fault::CannotShow { word, cause } => put_unshown(word, *cause, err),
         Fault::NoThread => put(err, b"rvtl: cannot start a thread"),
@@ -136,6 +140,14 @@ fn put_other_image<E: Write>(file: &str, address: u32, err: &mut E) -> io::Resul
     put_named(b"rvtl: ", file, &told, err)
 }
 
+fn put_too_many_rows<E: Write>(file: &str, err: &mut E) -> io::Result<()>
+    ensures { IsTrue (is_plain file.now) → Writes (E.contents err.old) (E.contents err.new) (fault_text (Fault.TooManyRows file.entry)) result }
+{
+    let told =
+        b": too much to draw (400 rows, or 65535 lines of text, at most): choose less by --line, or by a shorter script";
+    put_of(file, told, err)
+}
+
 fn put_bad_address<E: Write>(word: &str, err: &mut E) -> io::Result<()>
     ensures { IsTrue (is_plain word.now) → Writes (E.contents err.old) (E.contents err.new) (fault_text (Fault.BadAddress word.entry)) result }
 {
@@ -192,12 +204,7 @@ fn put_at_line<'a, E: Write>(
 }
 
 /// What stands before a name, the name, and what stands behind it.
-fn put_named<E: Write>(
-    lead: &[u8],
-    name: &str,
-    behind: &[Piece<'_>],
-    err: &mut E,
-) -> io::Result<()>
+fn put_named<E: Write>(lead: &[u8], name: &str, behind: &[Piece<'_>], err: &mut E) -> io::Result<()>
     ensures { IsTrue (is_plain name.now) → Writes (E.contents err.old) (E.contents err.new) (lead.now ++ (name.now ++ pieces behind.now)) result }
 {
     if is_plain(name) {
@@ -292,7 +299,9 @@ fn unshown_text(cause: Unshown) -> &'static str
 {
     match cause {
         Unshown::Elsewhere => "not with --sample: leave out one of them",
-        Unshown::NoSymbol => "no such symbol in IMAGE, and no number below 2^32: name another (nm lists them, none where -s linked it) or give an address",
-        Unshown::NoWord => "no aligned word of memory: choose a multiple of 4 from 0x80000000 to the end of --memory (hexadecimal stands behind 0x)",
+        Unshown::NoSymbol =>
+            "no such symbol in IMAGE, and no number below 2^32: name another (nm lists them, none where -s linked it) or give an address",
+        Unshown::NoWord =>
+            "no aligned word of memory: choose a multiple of 4 from 0x80000000 to the end of --memory (hexadecimal stands behind 0x)",
     }
 }

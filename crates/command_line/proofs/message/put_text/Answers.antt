@@ -44,3 +44,6 @@ returns-in-Configuration g c = rw c.in-Configuration.is (λ plain. c.put-in-Conf
 
 pub returns-in-OutOfMemory : goal.returns-in-OutOfMemory
 returns-in-OutOfMemory g c = rw c.in-OutOfMemory.is (λ plain. c.put-in-OutOfMemory.ensures)
+
+pub returns-in-TooManyRows : goal.returns-in-TooManyRows
+returns-in-TooManyRows g c = rw c.in-TooManyRows.is c.put_too_many_rows.ensures

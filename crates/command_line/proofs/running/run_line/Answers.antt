@@ -218,7 +218,7 @@ pub returns-clause-faulted : goal.returns-clause-faulted
 unfolding HasToldFault
 returns-clause-faulted g c = λ one. elim c.match-settings.branch [
   | in-Ok+in-Err w ↦ rw (w.out-is, w.files-is) (inr (has_fault _ _ _ _ _ _ _ _ 1 w.in-Ok.wanted w.in-Err.fault w.in-Ok.ensures.named w.in-Ok.ensures.fitting w.in-Ok.ensures.agreeing w.in-Err.ensures.told w.in-Err.ensures.leaves
-    w.in-Err.ensures.untouched w.in-Err.ensures.outside w.in-Err.ensures.silent (rw (w.fault-is, w.err-is) at c.tell.ensures.told) (rw (← w.fault-is) (sym c.tell.ensures.status ∙ one))))
+      w.in-Err.ensures.untouched w.in-Err.ensures.outside w.in-Err.ensures.silent (rw (w.fault-is, w.err-is) at c.tell.ensures.told) (rw (← w.fault-is) (sym c.tell.ensures.status ∙ one))))
   | in-Err-NoMemory w ↦
       let four : c.tell.result ≡ 4 = rw w.fault-is at c.tell.ensures.status in
       let bad : 4 ≡ 1 = sym four ∙ one in cc
@@ -232,17 +232,17 @@ pub returns-in-Ok-NotAllowed-clause-starved : goal.returns-in-Ok-NotAllowed-clau
 returns-in-Ok-NotAllowed-clause-starved g c = λ four. let bad : 3 ≡ 4 = four in cc
 
 pub returns-in-Err-Usage-clause-starved : goal.returns-in-Err-Usage-clause-starved
-unfolding HasToldWant, HasToldFault
+unfolding HasToldWant HasToldFault
 returns-in-Err-Usage-clause-starved g c = λ four. elim (rw c.in-Err-Usage.field-0-is at c.explain.ensures.help) [
   | inl two ↦ let no : 4 ≡ 2 = sym four ∙ two in cc
   | inr asks ↦ inr (inl (is_for_help _ c.in-Err-Usage.field-0 c.in-Err-Usage.usage c.in-Err-Usage.field-0-is c.in-Err-Usage.ensures.refused asks, lost_as _ _ c.explain.result 4 four (omega arith) (λ bad. cc) c.explain.ensures.lost))
 ]
 
 pub returns-clause-starved : goal.returns-clause-starved
-unfolding HasToldWant, HasToldFault
+unfolding HasToldWant HasToldFault
 returns-clause-starved g c = λ four. elim c.match-settings.branch [
   | in-Ok+in-Err w ↦ rw (w.out-is, w.files-is) (inr (inr (has_fault _ _ _ _ _ _ _ _ 4 w.in-Ok.wanted w.in-Err.fault w.in-Ok.ensures.named w.in-Ok.ensures.fitting w.in-Ok.ensures.agreeing w.in-Err.ensures.told w.in-Err.ensures.leaves
-    w.in-Err.ensures.untouched w.in-Err.ensures.outside w.in-Err.ensures.silent (rw (w.fault-is, w.err-is) at c.tell.ensures.told) (rw (← w.fault-is) (sym c.tell.ensures.status ∙ four)))))
+      w.in-Err.ensures.untouched w.in-Err.ensures.outside w.in-Err.ensures.silent (rw (w.fault-is, w.err-is) at c.tell.ensures.told) (rw (← w.fault-is) (sym c.tell.ensures.status ∙ four)))))
   | in-Err-NoMemory w ↦ rw (w.out-is, w.files-is) (inl (record { stays = refl; unprinted = refl; message = rw (w.fault-is, w.err-is) at c.tell.ensures.told }))
 ]
 
@@ -263,7 +263,7 @@ pub returns-clause-refused : goal.returns-clause-refused
 unfolding HasToldMisuse
 returns-clause-refused g c = λ two. elim c.match-settings.branch [
   | in-Ok+in-Err w ↦ rw (w.out-is, w.files-is) (inr (inr (has_fault _ _ _ _ _ _ _ _ 2 w.in-Ok.wanted w.in-Err.fault w.in-Ok.ensures.named w.in-Ok.ensures.fitting w.in-Ok.ensures.agreeing w.in-Err.ensures.told w.in-Err.ensures.leaves
-    w.in-Err.ensures.untouched w.in-Err.ensures.outside w.in-Err.ensures.silent (rw (w.fault-is, w.err-is) at c.tell.ensures.told) (rw (← w.fault-is) (sym c.tell.ensures.status ∙ two)))))
+      w.in-Err.ensures.untouched w.in-Err.ensures.outside w.in-Err.ensures.silent (rw (w.fault-is, w.err-is) at c.tell.ensures.told) (rw (← w.fault-is) (sym c.tell.ensures.status ∙ two)))))
   | in-Err-NoMemory w ↦
       let four : c.tell.result ≡ 4 = rw w.fault-is at c.tell.ensures.status in
       let bad : 4 ≡ 2 = sym four ∙ two in cc
