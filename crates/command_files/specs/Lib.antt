@@ -3,6 +3,7 @@ pub mod Composition
 pub mod Ends
 pub mod Faults
 pub mod Files
+pub mod Messages
 pub mod Contents
 pub mod Sizes
 pub mod Sources

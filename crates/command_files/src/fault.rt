@@ -6,110 +6,86 @@ ghost use Rattle.command_files.specs.Status.{IsOutOfMemory, IsStreamFault, statu
 ghost use Rattle.event_stream.specs.Lines.{script_line_of};
 ghost use Rattle.command_files.specs.declared.fault.Fault.TheVariants.{OutOfMemory};
 
-use crate::escaped::Escaped;
 use elf_loader::LoadError;
+use event_stream::StreamError;
 use event_stream::coherent_machine::{ApplyError, ReplayError};
-use event_stream::{StreamError, outcome_name};
 use machine_types::Outcome;
 use notes::rvwmo_order::CheckError;
 use std::alloc::AllocError;
 use std::io::{self, ErrorKind};
-use thiserror::Error;
 use trace_text::{TextCode, TextError};
 
 /// Why a word of memory can't be shown.
-#[derive(Clone, Copy, Debug, PartialEq, Eq, Error)]
+#[derive(Clone, Copy, Debug, PartialEq, Eq)]
 pub enum Unshown {
     /// Random runs show none.
-    #[error("not with --sample: leave out one of them")]
     Elsewhere,
     /// It is no number below 2^32, and the image has no such symbol.
-    #[error("no such symbol in IMAGE, and no number below 2^32: name another (nm lists them, none where -s linked it) or give an address")]
     NoSymbol,
     /// No aligned word of memory lies at its address.
-    #[error("no aligned word of memory: choose a multiple of 4 from 0x80000000 to the end of --memory (hexadecimal stands behind 0x)")]
     NoWord,
 }
 
-/// What went wrong, with the file in which it did. Its text is the program's message, of one line: what
-/// would end a line or steer a terminal is escaped in a file's name.
-#[derive(Debug, Drop, Error)]
+/// What went wrong, with the file in which it did.
+#[derive(Debug, Drop)]
 pub enum Fault<'a> {
-    #[error("rvtl: {}: cannot read", Escaped(*.file))]
     CannotRead {
         file: &'a str,
     },
-    #[error("rvtl: {}: cannot write", Escaped(*.file))]
     CannotMake {
         file: &'a str,
     },
-    #[error("rvtl: cannot write")]
     CannotWrite,
-    #[error("rvtl: {}: image fault {} {error}", Escaped(*.file), .error.number())]
     Image {
         file: &'a str,
         error: LoadError,
     },
-    #[error("rvtl: {}: line {}: text fault {} {}", Escaped(*.file), .error.line, .error.code.number(), .error.code)]
     Text {
         file: &'a str,
         error: TextError,
     },
-    #[error("rvtl: {}: line {line}: event fault {} {error}", Escaped(*.file), .error.number())]
     Event {
         file: &'a str,
         line: usize,
         error: ApplyError,
     },
-    #[error("rvtl: {}: line {line}: nothing happens: {}", Escaped(*.file), outcome_name(*.outcome))]
     NothingHappens {
         file: &'a str,
         line: usize,
         outcome: Outcome,
     },
-    #[error("rvtl: {}: bytes after the trace", Escaped(*.file))]
     BytesAfterTrace {
         file: &'a str,
     },
-    #[error("rvtl: {}: check fault {} {error}", Escaped(*.file), .error.number())]
     Check {
         file: &'a str,
         error: CheckError,
     },
     /// The words in which the trace of this file begins aren't the image's: the first that differs is at this address.
-    #[error("rvtl: {}: the trace of another image: the word at {:#010x} differs", Escaped(*.file), .address)]
     OtherImage {
         file: &'a str,
         address: u32,
     },
     /// A picture would have more than 400 rows or bars, or more than 65,535 lines of text.
-    #[error("rvtl: {}: too much to draw (400 rows, or 65535 lines of text, at most): choose less by --line, or by a shorter script", Escaped(*.file))]
     TooManyRows {
         file: &'a str,
     },
     /// What was given as an address is no number below 2^32, in decimal or behind 0x in hexadecimal.
-    #[error("rvtl: --line {}: no address: give one in decimal, or in hexadecimal behind 0x", Escaped(*.word))]
     BadAddress {
         word: &'a str,
     },
     /// What was given as a word of memory to show can't be shown.
-    #[error("rvtl: --show {}: {cause}", Escaped(*.word))]
     CannotShow {
         word: &'a str,
         cause: Unshown,
     },
-    #[error("rvtl: cannot start a thread")]
     NoThread,
     /// The machine that the threads gave back is of another image or configuration.
-    #[error("rvtl: fabric mismatch")]
     Mismatch,
     /// A thread picked an event that no machine has.
-    #[error("rvtl: bad event")]
     BadEvent,
     /// No machine is of this size. A script can't name one.
-    #[error("rvtl: bad configuration")]
     Configuration,
-    #[error("rvtl: out of memory")]
     OutOfMemory,
 }
 

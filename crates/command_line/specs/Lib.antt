@@ -2,4 +2,3 @@ pub mod Running
 pub mod Telling
 pub mod Runs
 pub mod Program
-pub mod Messages

@@ -8,7 +8,7 @@ use Rattle.trace_commands.specs.Checking.{IsCheckFault}
 use Rattle.trace_commands.specs.Messages.{IsLogFault}
 use Rattle.command_files.specs.Faults.{IsReplayFault, LeavesAtFault}
 use Rattle.command_files.specs.Contents.{Contents}
-use Rattle.command_line.specs.Messages.{IsLost, IsToldOf}
+use Rattle.command_files.specs.Messages.{IsLost, IsToldOf}
 use Rattle.command_files.specs.Status.{status_of}
 use Rattle.command_files.specs.declared.allowing.Judgement.TheVariants.{NotAllowed}
 use Rattle.command_files.specs.declared.fault.Fault.{Fault}
@@ -98,9 +98,8 @@ AreWordsJudged false held show old new before after = WordRefusals held show old
 abbrev pub IsQuietAt : Fault → (before after : Option (List ℕ)) → (judged : Type 0) → Type 0
 IsQuietAt fault before after judged = (ComesBeforeScripts fault → after ≡ before) × ((after ≡ before) ⊎ judged)
 
--- before its fault a command puts nothing else on standard error; of a replay it is not said
+-- before its fault a command puts nothing else on standard error
 abbrev pub IsNotedAt : Contents → (old new before after : Option (List ℕ)) → Settings → Fault → Type 0
-IsNotedAt held old new before after (Replay replay) fault = Unit {0}
 IsNotedAt held old new before after (Explore explore) fault = IsQuietAt fault before after (AreJudged explore.architecture (nat_lt 0 explore.sample) held explore old new before after)
 IsNotedAt held old new before after (Show show) fault = IsQuietAt fault before after (AreWordsJudged show.explore.architecture held show old new before after)
 IsNotedAt held old new before after _ fault = after ≡ before

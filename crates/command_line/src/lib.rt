@@ -4,11 +4,9 @@
 
 mod carrying;
 mod laws;
-mod message;
 mod program;
 mod running;
 
 pub use laws::runs_replay;
-pub use message::{tell, tell_lost};
 pub use program::run_program;
 pub use running::run_line;

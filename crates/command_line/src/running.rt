@@ -3,13 +3,12 @@
 ghost use Rattle.std.specs.Prelude.{◌≡◌, ◌≢◌, ◌⊎◌, ◌≤◌, ◌<◌, map};
 ghost use Rattle.clap.specs.Words.{kind_of};
 ghost use Rattle.command_settings.specs.Refusals.{IsFitting, IsForHelp, IsHelp, IsUnfit};
-ghost use Rattle.command_line.specs.Messages.{IsLost};
+ghost use Rattle.command_files.specs.Messages.{IsLost};
 ghost use Rattle.command_line.specs.Running.{AreMisused, HasNamed, HasNoted, IsCarriedOut, IsNotLegal, IsNoted, IsUnprinted, Spares};
 ghost use Rattle.command_line.specs.Telling.{HasToldFault, HasToldMisuse, HasToldWant};
 
 use crate::carrying::carry_out;
-use crate::message::{tell, tell_lost};
-use command_files::{Fault, Files, Judgement};
+use command_files::{Fault, Files, Judgement, tell, tell_lost};
 use command_settings::{SettingsError, settings};
 use progress_line::Progress;
 use std::alloc::Global;

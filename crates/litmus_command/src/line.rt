@@ -16,7 +16,7 @@ use crate::logs::Logs;
 use crate::test::{Reply, answer_to};
 use crate::usage::{HELP, remedy};
 use crate::wanted::{Misuse, Request, Wanted, request_of};
-use command_files::{Escaped, Fault, Files, contents};
+use command_files::{Escaped, Fault, Files, contents, put_fault};
 use litmus_answers::{Entry, entries_of};
 use std::alloc::{AllocError, Global};
 use std::convert::AsStr;
@@ -44,7 +44,7 @@ fn read<F: Files, E: Write>(
         Ok(bytes) => Ok(bytes),
         Err(Fault::OutOfMemory) => Err(Ended::NoMemory),
         Err(fault) => {
-            let _ = writeln!(err, "{fault}");
+            let _ = put_fault(&fault, err);
             Err(Ended::Failed)
         }
     }

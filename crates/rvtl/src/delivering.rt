@@ -3,10 +3,10 @@
 ghost use Rattle.std.specs.Prelude.{◌≡◌, ◌≢◌, ◌⊎◌, []};
 ghost use Rattle.std.specs.Io.Buffered.{writer_buffer, writer_contents};
 ghost use Rattle.std.specs.Io.KnownBytes.{Keeps};
-ghost use Rattle.command_line.specs.Messages.{IsLost};
+ghost use Rattle.command_files.specs.Messages.{IsLost};
 
-use command_files::Files;
-use command_line::{run_program, tell_lost};
+use command_files::{Files, tell_lost};
+use command_line::run_program;
 use progress_line::Progress;
 use std::convert::AsStr;
 use std::io::{BufWriter, Write};

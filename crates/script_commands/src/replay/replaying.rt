@@ -1,6 +1,6 @@
 //! `rvtl replay`: a script of events is applied to a machine, and the trace printed.
 
-ghost use Rattle.std.specs.Prelude.{◌≡◌, IfErr, IfOk, OnOk};
+ghost use Rattle.std.specs.Prelude.{◌≡◌, IfErr, IfOk, OnErr, OnOk};
 ghost use Rattle.elf_loader.specs.Size.{IsMemoryKib};
 ghost use Rattle.command_files.specs.Files.{HoldsImage, HoldsScript, IsTheScriptIn};
 ghost use Rattle.command_files.specs.Contents.{HoldsBytes};
@@ -33,6 +33,7 @@ pub fn replay_files<'a, F: Files, O: Write, E: Write>(
 ) -> Result<(), Fault<'a>>
     ensures replayed { OnOk result (IsReplayed (F.held files.old) wanted.entry (O.contents out.old) (O.contents out.new)) }
     ensures ends { OnOk result (IsReplayEndTold (F.held files.old) wanted.entry (E.contents err.old) (E.contents err.new)) }
+    ensures silent { OnErr result (E.contents err.new ≡ E.contents err.old) }
     ensures unfinished { IfErr result (λ fault. LeavesAtFault fault (O.contents out.old) (O.contents out.new)
         (IsCutOff (F.held files.old) wanted.entry (O.contents out.old) (O.contents out.new))) }
     ensures told { IfErr result (IsReplayFault (F.held files.old) wanted.entry) }

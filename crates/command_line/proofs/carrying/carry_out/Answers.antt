@@ -275,7 +275,7 @@ returns-in-Fences-clause-noted g c = fences_noted _ _ _ _ _ _ _ c.in-Fences.audi
 -- ---- what stands on standard error before a fault
 
 pub returns-in_err-replay_files-in-Replay-clause-silent : goal.returns-in_err-replay_files-in-Replay-clause-silent
-returns-in_err-replay_files-in-Replay-clause-silent g c = handed_up _ c.from_residual.result _ c.from_residual.ensures.1 (noted_at _ _ _ _ _ _ _ _ c.in-Replay.is tt)
+returns-in_err-replay_files-in-Replay-clause-silent g c = handed_up _ c.from_residual.result _ c.from_residual.ensures.1 (noted_at _ _ _ _ _ _ _ _ c.in-Replay.is c.in_err-replay_files-in-Replay.ensures.silent)
 
 pub returns-in_err-explained-in-Explain-clause-silent : goal.returns-in_err-explained-in-Explain-clause-silent
 returns-in_err-explained-in-Explain-clause-silent g c = handed_up _ c.from_residual-in_err-explained-in-Explain.result _ c.from_residual-in_err-explained-in-Explain.ensures.1 (noted_at _ _ _ _ _ _ _ _ c.in-Explain.is refl)

@@ -1,13 +1,14 @@
 //! The program's message for a fault.
 
 ghost use Rattle.std.specs.Prelude.{◌≡◌, ◌⊎◌, ◌++◌, IsTrue, codes};
-ghost use Rattle.command_line.specs.Messages.{HasPlainName, IsLost, IsToldOf, apply_error_name, check_error_name, fault_line, fault_text, is_plain, is_plain_byte, line_text, load_error_name, numbered_cause, text_code_name, unshown_text};
+ghost use Rattle.command_files.specs.Messages.{HasPlainName, IsLost, IsToldOf, apply_error_name, check_error_name, fault_line, fault_text, is_plain, is_plain_byte, line_text, load_error_name, numbered_cause, text_code_name, unshown_text};
 ghost use Rattle.command_files.specs.Status.{status_of};
 ghost use Rattle.text_fields.specs.Writing.{Writes, pieces};
 
-use coherent_machine::ApplyError;
-use command_files::{Escaped, Fault, Unshown};
+use crate::escaped::Escaped;
+use crate::fault::{Fault, Unshown};
 use elf_loader::LoadError;
+use event_stream::coherent_machine::ApplyError;
 use event_stream::outcome_name;
 use machine_types::Outcome;
 use rvwmo_order::CheckError;
@@ -35,7 +36,7 @@ pub fn tell_lost<E: Write>(error: io::Error, err: &mut E) -> u8
 }
 
 /// Puts a fault's message, one line. What would end it or steer a terminal is escaped in a file's name.
-fn put_fault<E: Write>(fault: &Fault<'_>, err: &mut E) -> io::Result<()>
+pub fn put_fault<E: Write>(fault: &Fault<'_>, err: &mut E) -> io::Result<()>
     ensures { HasPlainName fault.now → Writes (E.contents err.old) (E.contents err.new) (fault_line fault.now) result }
 {
     put_text(fault, err)?;

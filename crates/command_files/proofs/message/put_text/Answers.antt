@@ -1,4 +1,4 @@
-use Rattle.command_line.proofs.message.put_text.Goals as goal
+use Rattle.command_files.proofs.message.put_text.Goals as goal
 
 pub returns-in-CannotRead : goal.returns-in-CannotRead
 returns-in-CannotRead g c = rw c.in-CannotRead.is c.put_of.ensures

@@ -1,4 +1,4 @@
-use Rattle.command_line.proofs.message.put_check_fault.Goals as goal
+use Rattle.command_files.proofs.message.put_check_fault.Goals as goal
 
 pub returns : goal.returns
 returns g c = rw (← c.number.ensures, ← c.check_error_name-name.ensures) c.put_cause.ensures

@@ -1,6 +1,6 @@
-use Rattle.std.proofs.Common.{◌≡◌, ◌∙◌, ◌⊎◌, ap, inl, inr}
+use Rattle.std.proofs.Common.{◌∙◌, ap, inl, inr}
 use Rattle.command_files.specs.Status.{status_of}
-use Rattle.command_line.proofs.message.tell_lost.Goals as goal
+use Rattle.command_files.proofs.message.tell_lost.Goals as goal
 
 pub returns-clause-lost : goal.returns-clause-lost
 returns-clause-lost g c = record { fault = c.writing.result; lost = c.writing.ensures.told; told = c.tell.ensures.told; of_status = c.tell.ensures.status }

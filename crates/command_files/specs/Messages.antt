@@ -4,9 +4,9 @@ use Rattle.std.specs.List.{list_all}
 use Rattle.elf_loader.specs.Error.{load_error_number}
 use Rattle.elf_loader.specs.declared.error.LoadError.{LoadError}
 use Rattle.elf_loader.specs.declared.error.LoadError.TheVariants as loading
-use Rattle.coherent_machine.specs.ApplyError.{ApplyError}
-use Rattle.coherent_machine.specs.Applying.{apply_error_number}
-use Rattle.coherent_machine.specs.TheVariants as applying
+use Rattle.event_stream.specs.ApplyError.{ApplyError}
+use Rattle.event_stream.specs.ApplyErrorVariants as applying
+use Rattle.event_stream.specs.Applying.{apply_error_number}
 use Rattle.event_stream.specs.Outcomes as outcomes
 use Rattle.rvwmo_order.specs.Codes.{error_number}
 use Rattle.rvwmo_order.specs.declared.error.CheckError.{CheckError}
