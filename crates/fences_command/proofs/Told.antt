@@ -12,13 +12,13 @@ use Rattle.elf_symbols.specs.Named.{Named}
 use Rattle.command_files.specs.Allowing.{IsAllowFile, IsNamedBy}
 use Rattle.command_files.specs.declared.allowing.Judgement.{Judgement}
 use Rattle.command_files.specs.declared.fault.Unshown.{Unshown}
-use Rattle.explore_command.specs.Targets.{AreAddressesOf, ComesBehindShown, IsUnplaced, IsUnshown, names_of}
-use Rattle.explore_command.specs.WordName.{WordName}
+use Rattle.search_files.specs.Targets.{AreAddressesOf, ComesBehindShown, IsUnplaced, IsUnshown, names_of}
+use Rattle.search_files.specs.WordName.{WordName}
 use Rattle.command_settings.specs.declared.wanted.Fences.{Fences}
-use Rattle.explore_command.proofs.Explored.{all_of}
-use Rattle.explore_command.proofs.Faults.{output_left}
-use Rattle.explore_command.specs.Exploring.{IsFolderFault, LeavesPart}
-use Rattle.explore_command.specs.Keeping.{SparesOthers}
+use Rattle.search_files.proofs.Files.{all_of}
+use Rattle.search_files.proofs.Files.{output_left}
+use Rattle.search_files.specs.Faults.{IsFolderFault, LeavesPart}
+use Rattle.search_files.specs.Folders.{SparesOthers}
 use Rattle.fences_command.specs.Keeping.{IsProgramFile, IsProgramKept, IsTarget, IsTargetFault, IsUnread}
 use Rattle.fences_command.specs.declared.keeping.Target.{Target}
 use Rattle.fence_audit.specs.Adding.{IsAllowance}
@@ -28,7 +28,7 @@ use Rattle.fence_audit.specs.declared.searches.World.{World}
 use Rattle.fence_audit.specs.declared.allowing.Allowance.{Allowance}
 use Rattle.fences_command.specs.Fencing.{AuditHas, IsAuditTold, IsFencesFault, IsOfFile, IsSought, judgement_of, told_text, world_of}
 use Rattle.machine_types.specs.declared.config.Config.{Config}
-use Rattle.script_commands.specs.Named.{HoldsNamedImage}
+use Rattle.search_files.specs.Named.{HoldsNamedImage}
 use Rattle.text_fields.specs.Writing.{Begins}
 
 pub of_image : (held : Contents) (wanted : Wanted) (fault : Fault) → IsImageFault held wanted.fences.raw wanted.fences.image wanted.fences.machine.memory fault → IsFencesFault held wanted fault

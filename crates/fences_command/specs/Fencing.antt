@@ -15,9 +15,9 @@ use Rattle.elf_symbols.specs.Named.{Named}
 use Rattle.command_files.specs.Allowing.{IsAllowFile}
 use Rattle.command_files.specs.declared.allowing.Judgement.{Judgement}
 use Rattle.command_files.specs.declared.allowing.Judgement.TheVariants.{Allowed, NotAllowed}
-use Rattle.explore_command.specs.WordName.{WordName}
-use Rattle.explore_command.specs.Targets.{AreAddressesOf, ComesBehindShown, IsUnplaced, names_of}
-use Rattle.explore_command.specs.Keeping.{SparesOthers}
+use Rattle.search_files.specs.WordName.{WordName}
+use Rattle.search_files.specs.Targets.{AreAddressesOf, ComesBehindShown, IsUnplaced, names_of}
+use Rattle.search_files.specs.Folders.{SparesOthers}
 use Rattle.fences_command.specs.Keeping.{IsProgramFile, IsProgramKept, IsUnread}
 use Rattle.fence_audit.specs.Adding.{IsAllowance}
 use Rattle.fence_audit.specs.Answers.{answer_within}
@@ -29,7 +29,7 @@ use Rattle.fence_audit.specs.declared.allowing.Allowance.TheVariants.{Broken, Ke
 use Rattle.fence_audit.specs.Lacking.{missing_text}
 use Rattle.fence_audit.specs.Text.{audit_text}
 use Rattle.machine_types.specs.declared.config.Config.{Config}
-use Rattle.script_commands.specs.Named.{HoldsNamedImage}
+use Rattle.search_files.specs.Named.{HoldsNamedImage}
 
 -- with a text that says which outcomes are allowed, what the image needs for these, or lacks; and else what it needs for its own
 abbrev pub IsSought : World → Initial → Config → (addresses : List ℕ) → (window limit : ℕ) → List WordName → Option (List ℕ) → Allowance → Type 0

@@ -2,15 +2,15 @@
 
 ghost use Rattle.std.specs.Prelude.{◌≡◌, ◌≢◌, ◌⊎◌, ◌<◌, Err, IfErr, IfOk, List, None, OnErr, OnOk, Some, option_map};
 ghost use Rattle.std.specs.Io.KnownBytes.{Appends};
-ghost use Rattle.explore_command.specs.Exploring.{ComesBeforeScripts, LeavesPart};
-ghost use Rattle.explore_command.specs.Keeping.{SparesOthers};
 ghost use Rattle.command_files.specs.Sizes.{IsOutside};
-ghost use Rattle.explore_command.specs.WordName.{WordName};
 ghost use Rattle.fence_audit.specs.Searches.{IsReady};
 ghost use Rattle.fence_audit.specs.Words.{CanShowEach};
-ghost use Rattle.explore_command.specs.Targets.{names_of};
 ghost use Rattle.fences_command.specs.Fencing.{AuditHas, IsAuditTold, IsFencesFault, IsOfFile, IsSought, judgement_of, told_text, world_of};
 ghost use Rattle.fences_command.specs.Keeping.{IsProgramFile, IsTarget};
+ghost use Rattle.search_files.specs.Faults.{ComesBeforeScripts, LeavesPart};
+ghost use Rattle.search_files.specs.Folders.{SparesOthers};
+ghost use Rattle.search_files.specs.Targets.{names_of};
+ghost use Rattle.search_files.specs.WordName.{WordName};
 ghost use Rattle.text_fields.specs.Writing.{Begins};
 
 use crate::keeping::{Target, keep_program, target_of};
@@ -18,15 +18,15 @@ use command_files::{Fault, Files, Judgement, allow_file, named_config, out_of_li
 use command_settings::{Audit, Fences, Subject};
 use elf_loader::Image;
 use elf_symbols::Symbols;
-use explore_command::exploration_text::WordName;
-use explore_command::{Targets, targets_of};
 use fence_audit::allowed_outcomes::Allowed;
 use fence_audit::{
     Allowance, Question, World, audit_allowed, audit_program, lacking_text, text_of,
 };
 use machine_types::Config;
 use progress_line::{Progress, Stage};
-use script_commands::named_image_in;
+use search_files::exploration_text::WordName;
+use search_files::script_commands::named_image_in;
+use search_files::{Targets, targets_of};
 use state_search::Watch;
 use std::alloc::{AllocError, Global};
 use std::io::Write;

@@ -2,9 +2,9 @@
 
 ghost use Rattle.std.specs.Prelude.{◌≡◌, ◌≢◌, IfErr, IfOk, IfSome, List, OnOk, option_map, ℕ};
 ghost use Rattle.command_files.specs.Allowing.{IsNamedBy};
-ghost use Rattle.explore_command.specs.Exploring.{IsFolderFault};
-ghost use Rattle.explore_command.specs.Keeping.{SparesOthers};
 ghost use Rattle.fences_command.specs.Keeping as spec;
+ghost use Rattle.search_files.specs.Faults.{IsFolderFault};
+ghost use Rattle.search_files.specs.Folders.{SparesOthers};
 
 use command_files::{Fault, Files, check_writable, contents, remark, unmade};
 use command_settings::Fences;

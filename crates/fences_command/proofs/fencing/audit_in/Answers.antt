@@ -1,6 +1,6 @@
 use Rattle.std.proofs.Common.{◌≡◌, ◌∙◌, List, refl, subst}
 use Rattle.command_files.specs.Faults.{Name}
-use Rattle.explore_command.specs.Targets.{AreAddressesOf, names_of}
+use Rattle.search_files.specs.Targets.{AreAddressesOf, names_of}
 use Rattle.command_files.proofs.Left.{handed_up, image_as_before, image_is_not_write}
 use Rattle.fences_command.proofs.Told.{allow_is_not_write, of_allow, of_file, of_image, of_target, of_words, target_is_not_write, words_are_not_write}
 use Rattle.fences_command.specs.Keeping.{IsTarget}

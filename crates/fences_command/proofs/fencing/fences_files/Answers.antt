@@ -1,7 +1,7 @@
 use Rattle.std.proofs.Common.{refl, subst, sym}
 use Rattle.command_files.proofs.Left.{handed_up}
-use Rattle.explore_command.proofs.Explored.{spared, spared_after}
-use Rattle.explore_command.proofs.Faults.{folder_late}
+use Rattle.search_files.proofs.Files.{spared, spared_after}
+use Rattle.search_files.proofs.Files.{folder_late}
 use Rattle.fences_command.proofs.Told.{all_told, of_kept, output_told, part_told, unbegun, whole_told}
 use Rattle.fences_command.specs.Keeping.{IsProgramFile, IsProgramKept, IsTarget}
 use Rattle.fences_command.proofs.fencing.fences_files.Goals as goal

@@ -1,5 +1,5 @@
 use Rattle.std.proofs.Common.{inl, refl, subst, sym}
-use Rattle.explore_command.proofs.Kept.{spares_more}
+use Rattle.search_files.proofs.Files.{spares_more}
 use Rattle.fences_command.specs.Keeping.{IsProgramFile, IsTarget}
 use Rattle.fences_command.proofs.keeping.keep_program.Goals as goal
 

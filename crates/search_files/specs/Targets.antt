@@ -10,7 +10,7 @@ use Rattle.elf_symbols.specs.Lookups.{address_of}
 use Rattle.elf_symbols.specs.Named.{Named}
 use Rattle.exploration_text.specs.declared.wording.WordName.{WordName}
 use Rattle.exploration_text.specs.declared.wording.WordName.TheVariants.{Address, Symbol}
-use Rattle.explorer.specs.Words.{CanShow}
+use Rattle.performed_words.specs.Words.{CanShow}
 
 -- a number is an address, and all else a symbol
 abbrev pub name_by : Name → Option ℕ → WordName

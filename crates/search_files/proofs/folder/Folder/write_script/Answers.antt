@@ -1,5 +1,5 @@
-use Rattle.explore_command.proofs.Kept.{on_ok, script_held}
-use Rattle.explore_command.proofs.keeping.Folder.write.Goals as goal
+use Rattle.search_files.proofs.Files.{on_ok, script_held}
+use Rattle.search_files.proofs.folder.Folder.write_script.Goals as goal
 
 pub returns-clause-kept : goal.returns-clause-kept
 returns-clause-kept g c =

@@ -1,10 +1,10 @@
 use Rattle.std.proofs.Common.{◌≡◌, ◌++◌, ℕ, [], List, Some, ap, map, sym, subst}
 use Rattle.std.proofs.lemmas.List.Elements.{All-nil, All-push}
 use Rattle.command_files.proofs.Left.{handed_up}
-use Rattle.explore_command.proofs.Shown.{first_is, first_unshown, none_shown, one_placed, one_shown}
-use Rattle.explore_command.specs.Targets.{name_of, place_of}
-use Rattle.explorer.specs.Words.{CanShow, CanShowEach}
-use Rattle.explore_command.proofs.show.targets.places_of.Goals as goal
+use Rattle.search_files.proofs.Words.{first_is, first_unshown, none_shown, one_placed, one_shown}
+use Rattle.search_files.specs.Targets.{name_of, place_of}
+use Rattle.performed_words.specs.Words.{CanShow, CanShowEach}
+use Rattle.search_files.proofs.targets.places_of.Goals as goal
 
 pub loop-rest-init : goal.loop-rest-init
 loop-rest-init c =

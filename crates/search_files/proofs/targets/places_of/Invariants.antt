@@ -1,8 +1,8 @@
 use Rattle.std.proofs.Common.{◌≡◌, ◌++◌, Some, length, map}
-use Rattle.explore_command.proofs.Shown.{HasShown}
-use Rattle.explore_command.specs.Targets.{name_of, place_of}
-use Rattle.explorer.specs.Words.{CanShowEach}
-use Rattle.explore_command.proofs.show.targets.places_of.Given as goal
+use Rattle.search_files.proofs.Words.{HasShown}
+use Rattle.search_files.specs.Targets.{name_of, place_of}
+use Rattle.performed_words.specs.Words.{CanShowEach}
+use Rattle.search_files.proofs.targets.places_of.Given as goal
 
 abbrev pub invariant-loop-rest : goal.invariant-loop-rest
 invariant-loop-rest l = record {

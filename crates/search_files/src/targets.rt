@@ -1,14 +1,14 @@
 //! The words of memory that are to be shown: what they are called, and where they lie.
 
 ghost use Rattle.std.specs.Prelude.{◌≡◌, ◌++◌, IfErr, IfOk, OnOk, Some, map};
-ghost use Rattle.explore_command.specs.Targets.{AreAddressesOf, IsUnplaced, IsUnshown, name_of, names_of, place_of};
-ghost use Rattle.explorer.specs.Words.{CanShow, CanShowEach};
+ghost use Rattle.search_files.specs.Targets.{AreAddressesOf, IsUnplaced, IsUnshown, name_of, names_of, place_of};
+ghost use Rattle.performed_words.specs.Words.{CanShow, CanShowEach};
 
 use command_files::{Fault, Unshown};
 use elf_loader::Image;
 use elf_symbols::Symbols;
 use exploration_text::WordName;
-use explorer::performed_words::can_show;
+use performed_words::can_show;
 use script_commands::address_in;
 use std::alloc::{AllocError, Global};
 
