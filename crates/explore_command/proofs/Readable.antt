@@ -26,8 +26,7 @@ use Rattle.trace_recorder.specs.declared.operation.OpId.{OpId}
 use Rattle.trace_text.specs.TraceHeads.{IsTraceHead}
 use Rattle.trace_text.specs.TraceLimits.{IsHart, IsLoaded, IsLogged, IsOperation, IsRetired, IsStatus, IsTrace}
 use Rattle.trace_text.specs.Traces.{head_of}
-use Rattle.architecture_outcomes.specs.Witness.{Witness}
-use Rattle.architecture_outcomes.specs.Witnesses.{IsWitness}
+use Rattle.architecture_outcomes.specs.Witnesses.{IsLegalTrace}
 
 all_more : {X : Type 0} (P Q : X → Type 0) → ((x : X) → P x → Q x) → (xs : List X) → AllByRecursion P xs → AllByRecursion Q xs
 all_more P Q more [] all = tt
@@ -97,8 +96,8 @@ module _ (image : Initial) (config : Config) (loaded : IsImage image) where
         inside = omega (arith, high, size);
       }
 
-  has_text : (w : Witness) → IsWitness image config w → IsTrace w.trace.history
-  has_text w is = record {
+  has_text : (t : History) → IsLegalTrace image config t → IsTrace t
+  has_text t is = record {
     head = head_fits t here (sym lists ∙ is.harts);
     memory = record { len = sym (whole_kib (length t.image.bytes) here.legal_size); small = bytes_small t.image.bytes here.bytes_fit };
     lists = lists;
@@ -108,9 +107,6 @@ module _ (image : Initial) (config : Config) (loaded : IsImage image) where
     statuses = all_more HasCode IsStatus status_fits t.statuses ranges.1;
   }
     where
-      t : History
-      t = w.trace.history
-
       here : IsImage t.image
       here = subst IsImage (sym is.image_is) loaded
 
@@ -128,8 +124,8 @@ module _ (image : Initial) (config : Config) (loaded : IsImage image) where
 
   way_has_text : (addresses : List ℕ) (o : Outcome) (way : Way) → IsWitnessedBy image config addresses o way → HasText way
   way_has_text addresses o (Machine script) is = tt
-  way_has_text addresses o (ModelAlone trace) is = has_text (record { harts = o.harts; trace = trace }) is.0.witness
-  way_has_text addresses o (Model trace) is = has_text (record { harts = o.harts; trace = trace }) is.witness
+  way_has_text addresses o (ModelAlone trace) is = has_text trace.history is.0.witness.legal
+  way_has_text addresses o (Model trace) is = has_text trace.history is.witness.legal
 
   -- each trace that shows an outcome has one
   pub each_has_text : (addresses : List ℕ) (outcomes : List Outcome) → All (IsWitnessed image config addresses) outcomes → All (λ o. HasText o.way) outcomes
