@@ -15,7 +15,9 @@ use Rattle.trace_text.specs.TraceLimits.{IsTrace}
 
 module _ (image : Initial) (config : Config) (loaded : IsImage image) where
   of_witness : (w : Witness) → IsWitness image config w → IsTrace w.trace.history
-  of_witness w is = has_text config w.trace.history (subst IsImage (sym is.image_is) loaded) is.harts is.allowed.runs is.allowed.order.only is.limits.places is.no_log
+  of_witness w is =
+      let legal = is.legal in
+      has_text config w.trace.history (subst IsImage (sym legal.image_is) loaded) legal.harts legal.allowed.runs legal.allowed.order.only legal.limits.places legal.no_log
 
   way_has_text : (addresses : List ℕ) (o : Outcome) (way : Way) → IsWitnessedBy image config addresses o way → HasText way
   way_has_text addresses o (Machine script) is = tt

@@ -1,7 +1,6 @@
 pub mod Closed
-pub mod Covered
 pub mod Emptying
-pub mod Keeping
+pub mod Reading
 pub mod Stopping
 pub mod Telling
 pub mod Ways

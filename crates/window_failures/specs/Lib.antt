@@ -1,6 +1,5 @@
 pub mod Failing
 pub mod Laws
-pub mod Places
-pub use Rattle.flat_exploration.specs.Failures
-pub use Rattle.flat_exploration.specs.declared.failure.Failure
-pub use Rattle.flat_exploration.specs.declared.failure.Stop
+pub use Rattle.window_model.specs.Failures
+pub use Rattle.window_model.specs.Failure
+pub use Rattle.window_model.specs.Stop

@@ -1,5 +1,5 @@
 //! Laws of harts that stop, each the contract of a function that does nothing.
-ghost use Rattle.window_failures.specs.Laws.{CoveredSetsTellCodes, CoveredSetsTellFailures, FailingAreFollowed, PlacesAreKeptOn, StopsKeepPlaces};
+ghost use Rattle.window_failures.specs.Laws.{CoveredSetsTellFailures, FailingAreFollowed};
 
 /// For each run in which a hart has stopped, be the others at their ends or not, and each order that the model allows,
 /// steps of the bare machine lead from reset to where that hart has stopped so and nothing of it waits, by the memories
@@ -10,23 +10,7 @@ pub fn failing_are_followed()
 
 /// Where each hart of each system that was found is covered, what it places next leaves memories that were seen, and
 /// each hart is told that stops for itself where nothing waits, each hart that stops in a run that the model allows is
-/// told with its code, at some place.
-pub fn covered_sets_tell_codes()
-    ensures { CoveredSetsTellCodes }
-{}
-
-/// And with its place, where what was found has the places of harts that were stopped.
+/// told, with its code and its place.
 pub fn covered_sets_tell_failures()
     ensures { CoveredSetsTellFailures }
-{}
-
-/// A node that stands where another one stops has its place, whatever it was stopped with.
-pub fn stops_keep_places()
-    ensures { StopsKeepPlaces }
-{}
-
-/// Where a node has the place of one that does all that a third one does, and that one has the third one's, the first
-/// one has it.
-pub fn places_are_kept_on()
-    ensures { PlacesAreKeptOn }
 {}

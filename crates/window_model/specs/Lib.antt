@@ -22,3 +22,7 @@ pub mod Seeing
 pub use Rattle.witnesses.specs.Outcomes
 pub use Rattle.witnesses.specs.Witnesses
 pub use Rattle.flat_exploration.specs.Shown
+pub use Rattle.flat_exploration.specs.Failures
+pub use Rattle.flat_exploration.specs.declared.failure.Failure
+pub use Rattle.flat_exploration.specs.declared.failure.Stop
+pub use Rattle.flat_exploration.specs.contracts.failure.FailurePartialEq.TheImpl as SameFailure

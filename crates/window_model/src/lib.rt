@@ -6,6 +6,7 @@ mod guess_laws;
 mod laws;
 mod reduction_laws;
 
+pub use flat_exploration;
 pub use guess_laws::{
     closed_sets_are_complete, closed_sets_see, covered_sets_are_complete, covered_sets_see,
     loads_follow,

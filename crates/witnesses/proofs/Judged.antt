@@ -11,24 +11,26 @@ use Rattle.std.specs.Global.{Vec}
 use Rattle.trace_recorder.proofs.Lists.{history_within}
 use Rattle.trace_recorder.specs.History.{History}
 use Rattle.witnesses.specs.Outcomes.{results_of, results_from}
-use Rattle.witnesses.specs.Witnesses.{IsAllowed, IsWholeRun, IsWitness, has_ended, history_of}
+use Rattle.witnesses.specs.Witnesses.{HasEndedRun, HasLists, IsAllowed, IsLegalTrace, IsWitness, has_ended, history_of}
 use Rattle.witnesses.specs.declared.witness.Run.{Run}
 use Rattle.witnesses.specs.declared.witness.Witness.{Witness}
 
-pub is_witness : (image : Initial) (config : Config) (run : Run) (witness : Witness) → IsWholeRun config.harts run → IsAllowed config.model witness.trace.history → length (names_in witness.trace.history) ≤ 4096
+pub is_legal_trace : (image : Initial) (config : Config) (run : Run) (t : History) → HasLists config.harts run → IsAllowed config.model t → length (names_in t) ≤ 4096 → t ≡ history_of image config run → IsLegalTrace image config t
+is_legal_trace image config run t has allowed few is = record {
+  image_is = ap (λ (s : History). s.image) is;
+  line_is = ap (λ (s : History). s.line) is;
+  harts = ap (λ (s : History). length s.entries) is ∙ (length-map _ _ ∙ has.lists);
+  limits = history_within t run.entries.items (sym (ap (λ (s : History). s.entries) is)) has.limits;
+  few = few;
+  no_log = ap (λ (s : History). s.log) is;
+  allowed = allowed;
+}
+
+pub is_witness : (image : Initial) (config : Config) (run : Run) (witness : Witness) → HasEndedRun run → IsLegalTrace image config witness.trace.history
     → witness.trace.history ≡ history_of image config run → told witness.harts.items ≡ results_from image (length run.entries.items) 0 (map (λ list. list.items) run.entries.items) run.statuses.items
     → IsWitness image config witness
-is_witness image config run witness whole allowed few is results = record {
-  image_is = ap (λ (t : History). t.image) is;
-  line_is = ap (λ (t : History). t.line) is;
-  harts = ap (λ (t : History). length t.entries) is ∙ (count ∙ whole.lists);
-  limits = history_within witness.trace.history run.entries.items (sym (ap (λ (t : History). t.entries) is)) whole.limits;
-  few = few;
-  no_log = ap (λ (t : History). t.log) is;
-  ended = ap (λ (t : History). list_all has_ended t.statuses) is ∙ whole.ended;
-  allowed = allowed;
-  outcome = results ∙ (ap (λ n. results_from image n 0 (map (λ (list : Vec Retired). list.items) run.entries.items) run.statuses.items) (sym count) ∙ ap results_of (sym is));
+is_witness image config run witness ended legal is results = record {
+  legal = legal;
+  ended = ap (λ (t : History). list_all has_ended t.statuses) is ∙ ended;
+  outcome = results ∙ (ap (λ n. results_from image n 0 (map (λ (list : Vec Retired). list.items) run.entries.items) run.statuses.items) (sym (length-map _ _)) ∙ ap results_of (sym is));
 }
-  where
-    count : length (map (λ (list : Vec Retired). list.items) run.entries.items) ≡ length run.entries.items
-    count = length-map _ _

@@ -34,27 +34,43 @@ history_of image config run = record {
   log = [];
 }
 
--- a list and a status for each hart, none too long for a trace, and all harts have ended
-pub record IsWholeRun (harts : ℕ) (run : Run) : Type 0 where
-  pub lists : length run.entries.items ≡ harts
-  pub ends : length run.statuses.items ≡ harts
-  pub limits : AreWithinLimits run.entries.items
-  pub ended : list_all has_ended run.statuses.items ≡ true
+-- ---- a run's trace
 
--- a run that is told as a witness
+-- a list and a status for each hart, none too long for a trace
+pub record HasLists (harts : ℕ) (run : Run) : Type 0 where
+  pub lists : length run.entries.items ≡ harts
+  pub statuses : length run.statuses.items ≡ harts
+  pub limits : AreWithinLimits run.entries.items
+
+-- a run whose trace is told
 pub record CanBeJudged (image : Initial) (config : Config) (run : Run) : Type 0 where
-  pub whole : IsWholeRun config.harts run
+  pub has : HasLists config.harts run
   pub allowed : IsAllowed config.model (history_of image config run)
   pub few : length (names_in (history_of image config run)) ≤ 4096
 
--- an outcome that the model allows: it is read off lists that are runs of the image from reset to their ends, and these have a legal order of at most 4,096 operations; no message is logged
+-- a trace that the model allows: its lists are runs of the image from reset on, whose harts may run still, and these have a legal order of at most 4,096 operations; no message is logged
+pub record IsLegalTrace (image : Initial) (config : Config) (t : History) : Type 0 where
+  pub image_is : t.image ≡ image
+  pub line_is : t.line ≡ config.line
+  pub harts : length t.entries ≡ config.harts
+  pub limits : IsWithinLimits t
+  pub few : length (names_in t) ≤ 4096
+  pub no_log : t.log ≡ []
+  pub allowed : IsAllowed config.model t
+
+-- ---- an outcome's witness
+
+-- all harts have ended
+abbrev pub HasEndedRun : Run → Type 0
+HasEndedRun run = list_all has_ended run.statuses.items ≡ true
+
+-- a run that is told as a witness
+pub record CanBeWitness (image : Initial) (config : Config) (run : Run) : Type 0 where
+  pub ended : HasEndedRun run
+  pub judged : CanBeJudged image config run
+
+-- an outcome that the model allows: it is read off lists that are runs of the image from reset to their ends
 pub record IsWitness (image : Initial) (config : Config) (witness : Witness) : Type 0 where
-  pub image_is : witness.trace.history.image ≡ image
-  pub line_is : witness.trace.history.line ≡ config.line
-  pub harts : length witness.trace.history.entries ≡ config.harts
-  pub limits : IsWithinLimits witness.trace.history
-  pub few : length (names_in witness.trace.history) ≤ 4096
-  pub no_log : witness.trace.history.log ≡ []
+  pub legal : IsLegalTrace image config witness.trace.history
   pub ended : list_all has_ended witness.trace.history.statuses ≡ true
-  pub allowed : IsAllowed config.model witness.trace.history
   pub outcome : told witness.harts.items ≡ results_of witness.trace.history
