@@ -16,10 +16,10 @@ use Rattle.std.proofs.lemmas.List.Sorted.{Contains-permutation, IsPermutation-ma
 use Rattle.architecture_outcomes.specs.declared.outcome.Outcome.{Outcome}
 use Rattle.architecture_outcomes.specs.Outcomes.{HasSought, TellEach, end_of, ends_of, of_witness, tells}
 use Rattle.elf_loader.specs.Image.{Initial}
-use Rattle.explorer.specs.Orders.{outcome_total, same_outcome}
-use Rattle.explorer.specs.Ranks.{outcome_cmp}
+use Rattle.exploration_text.specs.Orders.{outcome_total, same_outcome}
+use Rattle.exploration_text.specs.Ranks.{outcome_cmp}
 use Rattle.performed_words.specs.Outcomes.{Outcome as End, performed_word}
-use Rattle.explorer.specs.Shown.{HartEnd}
+use Rattle.exploration_text.specs.Shown.{HartEnd}
 use Rattle.machine_types.specs.declared.config.Config.{Config}
 use Rattle.window_search.specs.WindowModelComplete.{TellsEachAllowed, ending_of}
 use Rattle.window_search.specs.Told.{TellsSought, end_with, endings_of}

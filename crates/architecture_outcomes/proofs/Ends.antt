@@ -5,9 +5,9 @@ use Rattle.std.specs.List.Sorted.{IsStrictlySortedBy}
 use Rattle.std.specs.Ordering.{on}
 use Rattle.std.proofs.lemmas.List.Elements.{All-map}
 use Rattle.architecture_outcomes.specs.Outcomes.{IsMachine, end_of, ends_of, of_found}
-use Rattle.explorer.specs.declared.found.Found.{Found}
-use Rattle.explorer.specs.Ends.{outcome_of, outcomes_of}
-use Rattle.explorer.specs.Ranks.{outcome_cmp}
+use Rattle.exploration_text.specs.Found.{Found}
+use Rattle.exploration_text.specs.Ends.{outcome_of, outcomes_of}
+use Rattle.exploration_text.specs.Ranks.{outcome_cmp}
 use Rattle.performed_words.specs.Outcomes.{Outcome as End}
 
 pub same_ends : (fs : List Found) → outcomes_of fs ≡ ends_of (map of_found fs)

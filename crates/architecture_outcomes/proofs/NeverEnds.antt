@@ -6,13 +6,13 @@ use Rattle.std.proofs.lemmas.Cmp.{tied_itself}
 use Rattle.architecture_outcomes.specs.declared.outcome.Outcome.{Outcome}
 use Rattle.architecture_outcomes.specs.Outcomes.{IsWitnessed, NeverEnds, end_of, ends_of, of_witness, tells}
 use Rattle.elf_loader.specs.Image.{Initial}
-use Rattle.explorer.specs.Outcomes.{HasEachEnd}
+use Rattle.exploration_text.specs.Outcomes.{HasEachEnd}
 use Rattle.performed_words.specs.Outcomes.{Outcome as End, performed_word}
 use Rattle.machine_types.specs.declared.config.Config.{Config}
 use Rattle.witnesses.specs.declared.witness.Witness.{Witness}
 use Rattle.witnesses.specs.Witnesses.{IsWitness}
-use Rattle.explorer.specs.Orders.{outcome_total}
-use Rattle.explorer.specs.Ranks.{outcome_cmp}
+use Rattle.exploration_text.specs.Orders.{outcome_total}
+use Rattle.exploration_text.specs.Ranks.{outcome_cmp}
 
 neither : (a b : Bool) → (a || b) ≡ false → (a ≡ false) × (b ≡ false)
 neither true b e = absurd (true≢false e)

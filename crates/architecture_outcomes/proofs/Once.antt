@@ -12,10 +12,10 @@ use Rattle.std.proofs.lemmas.List.Sorted.{All-permutation}
 use Rattle.std.proofs.lemmas.List.Sums.{sum_by-append, sum_by-cons}
 use Rattle.architecture_outcomes.specs.declared.outcome.Outcome.{Outcome}
 use Rattle.architecture_outcomes.specs.Outcomes.{TellOnce, end_of, tells}
-use Rattle.explorer.proofs.Once.{once_of_strict, strict_of_once, times_moved}
+use Rattle.exploration_text.proofs.Once.{once_of_strict, strict_of_once, times_moved}
 use Rattle.performed_words.specs.Outcomes.{Outcome as End}
-use Rattle.explorer.specs.Orders.{outcome_total, same_outcome}
-use Rattle.explorer.specs.Ranks.{outcome_cmp}
+use Rattle.exploration_text.specs.Orders.{outcome_total, same_outcome}
+use Rattle.exploration_text.specs.Ranks.{outcome_cmp}
 
 counted : {X : Type 0} (p : X → Bool) (x : X) (xs : List X) → count_by p (x ∷ xs) ≡ cond (p x) 1 0 + count_by p xs
 counted p x xs = sum_by-cons (λ y. cond (p y) 1 0) x xs

@@ -14,8 +14,8 @@ use Rattle.std.proofs.Math.Logic.{⊎_elim}
 use Rattle.architecture_outcomes.specs.declared.outcome.Outcome.{Outcome}
 use Rattle.architecture_outcomes.specs.Outcomes.{end_of, tells}
 use Rattle.performed_words.specs.Outcomes.{Outcome as End}
-use Rattle.explorer.specs.Orders.{outcome_total}
-use Rattle.explorer.specs.Ranks.{outcome_cmp}
+use Rattle.exploration_text.specs.Orders.{outcome_total}
+use Rattle.exploration_text.specs.Ranks.{outcome_cmp}
 
 -- what stands above stands no lower beside a third
 no_lower : {K : Type 0} {R : K → K → Ordering} → IsTotalOrder R → (x y z : K) → R x y ≡ Less → ordering_index (R x z) ≤ ordering_index (R y z)

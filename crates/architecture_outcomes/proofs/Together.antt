@@ -10,10 +10,10 @@ use Rattle.architecture_outcomes.specs.declared.outcome.Way.TheVariants.{Machine
 use Rattle.architecture_outcomes.specs.Outcomes.{IsDecided, IsMachine, IsWitnessed, TellsEachEnd, end_by, end_of, ends_of, machine_end}
 use Rattle.architecture_outcomes.specs.Visited.{TellsEnd}
 use Rattle.elf_loader.specs.Image.{Initial}
-use Rattle.explorer.specs.Outcomes.{HasEachEnd}
+use Rattle.exploration_text.specs.Outcomes.{HasEachEnd}
 use Rattle.performed_words.specs.Outcomes.{Outcome as End, machine_outcome}
 use Rattle.machine_types.specs.declared.config.Config.{Config}
-use Rattle.explorer.specs.Schedules.{led}
+use Rattle.exploration_text.specs.Schedules.{led}
 
 pub Contains-map : {X Y : Type 0} (f : X → Y) (xs : List X) (x : X) → Contains xs x → Contains (map f xs) (f x)
 Contains-map f xs x (k, l, e) = (k, subst (λ n. k < n) (sym (length-map xs f)) l, get_or-map f xs k x (f x) l ∙ ap f e)

@@ -4,8 +4,8 @@ use Rattle.architecture_outcomes.proofs.Ends.{same_ends}
 use Rattle.architecture_outcomes.specs.Outcomes.{ends_of, of_found}
 use Rattle.architecture_outcomes.specs.Visited.{AreMachineStates}
 use Rattle.elf_loader.specs.Image.{Initial}
-use Rattle.explorer.specs.declared.exploration.Exploration.{Exploration}
-use Rattle.explorer.specs.Visited.{AreVisited}
+use Rattle.exploration_text.specs.Exploration.{Exploration}
+use Rattle.exploration_text.specs.Visited.{AreVisited}
 use Rattle.performed_words.specs.Outcomes.{Outcome as End}
 use Rattle.witnesses.specs.Flat.{Flat}
 use Rattle.machine_types.specs.declared.config.Config.{Config}

@@ -6,11 +6,11 @@ pub use Rattle.window_search.specs.declared.left_out.Reach
 pub use Rattle.window_search.specs.LeftOut
 pub use Rattle.window_search.specs.Met
 pub use Rattle.window_search.specs.Openings
-pub use Rattle.explorer.specs.declared.found.Found
-pub use Rattle.explorer.specs.Ends
-pub use Rattle.explorer.specs.Outcomes as ExplorerOutcomes
+pub use Rattle.exploration_text.specs.Found
+pub use Rattle.exploration_text.specs.Ends
+pub use Rattle.exploration_text.specs.Outcomes as ExplorerOutcomes
 pub use Rattle.window_search.specs.WindowModelComplete as Complete
 pub use Rattle.performed_words.specs.Words
-pub use Rattle.explorer.specs.Schedules
+pub use Rattle.exploration_text.specs.Schedules
 pub use Rattle.witnesses.specs.declared.witness.Witness
 pub use Rattle.witnesses.specs.Witnesses

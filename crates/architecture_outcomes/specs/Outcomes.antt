@@ -6,14 +6,14 @@ use Rattle.architecture_outcomes.specs.declared.outcome.Outcome.{Outcome}
 use Rattle.architecture_outcomes.specs.declared.outcome.Way.{Way}
 use Rattle.architecture_outcomes.specs.declared.outcome.Way.TheVariants.{Machine, Model, ModelAlone}
 use Rattle.elf_loader.specs.Image.{Initial}
-use Rattle.explorer.specs.declared.found.Found.{Found}
-use Rattle.explorer.specs.declared.found.Realisation.{Realisation}
-use Rattle.explorer.specs.Ends.{IsRealIn, outcome_with}
-use Rattle.explorer.specs.Ranks.{outcome_cmp}
+use Rattle.exploration_text.specs.Found.{Found}
+use Rattle.exploration_text.specs.Realisation.{Realisation}
+use Rattle.exploration_text.specs.Ends.{IsRealIn, outcome_with}
+use Rattle.exploration_text.specs.Ranks.{outcome_cmp}
 use Rattle.performed_words.specs.Outcomes.{HasEnded, Outcome as End, machine_outcome, performed_word}
 use Rattle.machine_types.specs.declared.config.Config.{Config}
 use Rattle.machine_types.specs.declared.event.Event.{Event}
-use Rattle.explorer.specs.Schedules.{led}
+use Rattle.exploration_text.specs.Schedules.{led}
 use Rattle.std.specs.Global.{Vec}
 use Rattle.trace_recorder.specs.declared.trace.Trace.{Trace}
 use Rattle.witnesses.specs.declared.witness.Witness.{Witness}

@@ -7,7 +7,7 @@ use Rattle.architecture_outcomes.specs.declared.outcome.Way.TheVariants as way
 use Rattle.architecture_outcomes.specs.Outcomes.{end_of}
 use Rattle.exploration_text.specs.declared.wording.WordName.{WordName}
 use Rattle.exploration_text.specs.Words.{end_text}
-use Rattle.explorer.specs.declared.found.Realisation.TheVariants.{Events, Limit, NoMemory, Unrealised}
+use Rattle.exploration_text.specs.RealisationVariants.{Events, Limit, NoMemory, Unrealised}
 use Rattle.machine_types.specs.declared.model.MemoryModel.{MemoryModel}
 use Rattle.machine_types.specs.declared.model.MemoryModel.TheVariants.{Rvwmo, Ztso}
 use Rattle.state_search.specs.declared.findings.Extent.{Extent}

@@ -3,7 +3,7 @@ use Rattle.std.specs.Prelude.{◌≡◌, ◌≢◌, ℕ, List, Some, Contains, l
 use Rattle.architecture_outcomes.specs.declared.outcome.Outcome.{Outcome}
 use Rattle.architecture_outcomes.specs.Outcomes.{machine_end}
 use Rattle.elf_loader.specs.Image.{Initial}
-use Rattle.explorer.specs.Visited.{AreDistinct}
+use Rattle.exploration_text.specs.Visited.{AreDistinct}
 use Rattle.performed_words.specs.Onward.{Leads, seen_opening}
 use Rattle.performed_words.specs.Outcomes.{Outcome as End, shown}
 use Rattle.witnesses.specs.Flat.{Flat}

@@ -11,8 +11,8 @@ ghost use Rattle.window_search.specs.Openings.{NeverOpens};
 ghost use Rattle.window_search.specs.LeftOut.{keeps_limit};
 ghost use Rattle.window_search.specs.Told.{TellsSought, endings_of};
 ghost use Rattle.witnesses.specs.Witnesses.{IsWitness};
-ghost use Rattle.explorer.specs.Outcomes.{HasEachEnd};
-ghost use Rattle.explorer.specs.Ranks.{outcome_cmp};
+ghost use Rattle.exploration_text.specs.Outcomes.{HasEachEnd};
+ghost use Rattle.exploration_text.specs.Ranks.{outcome_cmp};
 ghost use Rattle.performed_words.specs.Words.{CanShowEach};
 
 use crate::outcome::Outcome;

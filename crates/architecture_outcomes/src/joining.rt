@@ -9,14 +9,14 @@ ghost use Rattle.window_search.specs.WindowModelComplete.{TellsEachAllowed};
 ghost use Rattle.window_search.specs.LeftOut.{keeps_limit};
 ghost use Rattle.window_search.specs.Met.{HasMet};
 ghost use Rattle.window_search.specs.Openings.{NeverOpens};
-ghost use Rattle.explorer.specs.Ranks.{outcome_cmp};
+ghost use Rattle.exploration_text.specs.Ranks.{outcome_cmp};
 ghost use Rattle.performed_words.specs.Words.{CanShowEach};
 
 use crate::architecture::Architecture;
 use crate::beyond::{beyond, search_model};
 use crate::machine::{Machine, search_machine};
 use elf_loader::Image;
-use explorer::Exploring;
+use exploration_text::explorer::Exploring;
 use machine_types::Config;
 use state_search::{Ending, Extent, Watch};
 use std::alloc::{AllocError, Global};
@@ -54,7 +54,7 @@ impl<W: Watch> Watch for Behind<'_, W> {
 /// the limit, `machine` or `model` ends it, or memory does; the second isn't made where the first is ended. Meanwhile `watch` is told how far they are. An outcome shows the words of memory
 /// at these addresses, in their order, behind all operations. What was found then stands. The error is that there was no
 /// memory to begin with, or none for the list of what was found.
-pub fn explore_architecture<W: Watch, M: explorer::Seek, S: Seek>(
+pub fn explore_architecture<W: Watch, M: exploration_text::explorer::Seek, S: Seek>(
     alloc: Global,
     image: &Image,
     config: Config,

@@ -11,7 +11,7 @@ mod outcome;
 mod spelling;
 
 pub use architecture::Architecture;
-pub use explorer;
+pub use exploration_text::explorer;
 pub use joining::explore_architecture;
 pub use outcome::{Outcome, Way};
 pub use performed_words;

@@ -5,13 +5,13 @@ ghost use Rattle.std.specs.Ordering.{on};
 ghost use Rattle.architecture_outcomes.specs.Outcomes.{HasSought, IsMachine, IsWitnessed, end_of, ends_of, of_found};
 ghost use Rattle.architecture_outcomes.specs.Visited.{AreMachineStates};
 ghost use Rattle.witnesses.specs.Flat.{Flat};
-ghost use Rattle.explorer.specs.Outcomes.{HasEachEnd};
-ghost use Rattle.explorer.specs.Ranks.{outcome_cmp};
+ghost use Rattle.exploration_text.specs.Outcomes.{HasEachEnd};
+ghost use Rattle.exploration_text.specs.Ranks.{outcome_cmp};
 ghost use Rattle.performed_words.specs.Words.{CanShowEach};
 
 use crate::outcome::{Outcome, Way};
 use elf_loader::Image;
-use explorer::{Exploration, Exploring, Found, Seek, explore};
+use exploration_text::explorer::{Exploration, Exploring, Found, Seek, explore};
 use machine_types::Config;
 use state_search::{Ending, Extent, Watch};
 use std::alloc::{AllocError, Global};

@@ -1,7 +1,7 @@
 //! Outcomes are told in the order of `explorer::compare`, and those of the same results by their words.
 
 use crate::outcome::Outcome;
-use explorer::compare;
+use exploration_text::explorer::compare;
 use std::cmp::Ordering;
 
 impl Ord for Outcome {
@@ -9,8 +9,8 @@ impl Ord for Outcome {
     ghost use Rattle.std.specs.Cmp.{on_total};
     ghost use Rattle.std.specs.Ordering.{on};
     ghost use Rattle.architecture_outcomes.specs.Outcomes.{end_of};
-    ghost use Rattle.explorer.specs.Orders.{outcome_total};
-    ghost use Rattle.explorer.specs.Ranks.{outcome_cmp};
+    ghost use Rattle.exploration_text.specs.Orders.{outcome_total};
+    ghost use Rattle.exploration_text.specs.Ranks.{outcome_cmp};
 
     ghost cmp = { on end_of outcome_cmp };
 
@@ -29,8 +29,8 @@ impl PartialOrd for Outcome {
     ghost use Rattle.std.specs.Cmp.{on_total, partial_order_from_total};
     ghost use Rattle.std.specs.Ordering.{as_partial_cmp, on};
     ghost use Rattle.architecture_outcomes.specs.Outcomes.{end_of};
-    ghost use Rattle.explorer.specs.Orders.{outcome_total};
-    ghost use Rattle.explorer.specs.Ranks.{outcome_cmp};
+    ghost use Rattle.exploration_text.specs.Orders.{outcome_total};
+    ghost use Rattle.exploration_text.specs.Ranks.{outcome_cmp};
 
     ghost partial_cmp = { as_partial_cmp (on end_of outcome_cmp) };
 
@@ -45,8 +45,8 @@ impl PartialEq for Outcome {
     ghost use Rattle.std.specs.Cmp.{on_total, partial_equiv_from_equiv};
     ghost use Rattle.std.specs.Ordering.{eq_by_cmp, on};
     ghost use Rattle.architecture_outcomes.specs.Outcomes.{end_of};
-    ghost use Rattle.explorer.specs.Orders.{outcome_total};
-    ghost use Rattle.explorer.specs.Ranks.{outcome_cmp};
+    ghost use Rattle.exploration_text.specs.Orders.{outcome_total};
+    ghost use Rattle.exploration_text.specs.Ranks.{outcome_cmp};
     ghost use Rattle.std.proofs.lemmas.Cmp.{eq_by_cmp_equiv};
 
     ghost eq = { eq_by_cmp (on end_of outcome_cmp) };
@@ -61,7 +61,7 @@ impl PartialEq for Outcome {
 impl Eq for Outcome {
     ghost use Rattle.std.specs.Cmp.{on_total};
     ghost use Rattle.architecture_outcomes.specs.Outcomes.{end_of};
-    ghost use Rattle.explorer.specs.Orders.{outcome_total};
+    ghost use Rattle.exploration_text.specs.Orders.{outcome_total};
     ghost use Rattle.std.proofs.lemmas.Cmp.{eq_by_cmp_equiv};
 
     ghost laws = { eq_by_cmp_equiv (on_total end_of outcome_total) };

@@ -2,7 +2,7 @@
 ghost use Rattle.std.specs.Prelude.{◌≡◌};
 ghost use Rattle.architecture_outcomes.specs.Outcomes.{of_witness};
 
-use explorer::Realisation;
+use exploration_text::explorer::Realisation;
 use trace_recorder::Trace;
 use witnesses::Witness;
 use witnesses::flat_model::HartResult;

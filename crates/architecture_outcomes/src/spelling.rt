@@ -7,7 +7,7 @@ ghost use Rattle.exploration_text.specs.Words.{end_text};
 use crate::architecture::Architecture;
 use crate::outcome::{Outcome, Way};
 use exploration_text::{WordName, end_text};
-use explorer::Realisation;
+use exploration_text::explorer::Realisation;
 use itoa::Buffer;
 use machine_types::MemoryModel;
 use state_search::{Ending, Extent};

@@ -1,2 +1,3 @@
 pub mod Joined
 pub mod FailureLines
+pub use Rattle.explorer.proofs.Once

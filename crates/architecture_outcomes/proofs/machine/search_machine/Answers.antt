@@ -7,9 +7,9 @@ use Rattle.architecture_outcomes.proofs.Visited.{states_are}
 use Rattle.architecture_outcomes.specs.declared.outcome.Outcome.{Outcome}
 use Rattle.architecture_outcomes.specs.Outcomes.{HasSought, IsMachine, IsWitnessed, end_of, ends_of, of_found}
 use Rattle.architecture_outcomes.specs.Visited.{AreMachineStates}
-use Rattle.explorer.specs.Outcomes.{HasEachEnd}
-use Rattle.explorer.specs.Ends.{outcomes_of}
-use Rattle.explorer.specs.Ranks.{outcome_cmp}
+use Rattle.exploration_text.specs.Outcomes.{HasEachEnd}
+use Rattle.exploration_text.specs.Ends.{outcomes_of}
+use Rattle.exploration_text.specs.Ranks.{outcome_cmp}
 use Rattle.performed_words.specs.Outcomes.{Outcome as End}
 use Rattle.architecture_outcomes.proofs.machine.search_machine.Goals as goal
 
