@@ -10,7 +10,7 @@ mod shadow;
 mod traces;
 
 use anyhow::{Result, ensure};
-pub use messages::lawful_messages;
+pub use messages::are_lawful;
 use std::fmt::Debug;
 use std::io::Write;
 use std::rt::Files;

@@ -66,9 +66,10 @@ fn plain_breaches(
     Ok(breaches)
 }
 
-/// How many messages a machine's trace has, each of them lawful by both profiles, and by the shadow.
-pub fn lawful_messages(alloc: Global, trace: &Trace) -> Result<usize> {
+/// Fails where a message of a machine's trace isn't lawful by both profiles and by the shadow, or where it has none.
+pub fn are_lawful(alloc: Global, trace: &Trace) -> Result<()> {
     let (image, log) = (Some(trace.image()), trace.log());
+    ensure!(!log.is_empty(), "no message");
     for profile in [Profile::Machine, Profile::TileLink] {
         let verdict = judge_messages(alloc, profile, image, log)?;
         are_alike(&verdict, &MessageVerdict::Lawful)?;
@@ -78,7 +79,7 @@ pub fn lawful_messages(alloc: Global, trace: &Trace) -> Result<usize> {
         are_alike(&shadow.broken(image, entry), &None)?;
         shadow.note(entry, index)?;
     }
-    Ok(log.len())
+    Ok(())
 }
 
 /// How often each rule was broken.
