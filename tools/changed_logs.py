@@ -39,8 +39,7 @@ def read_logs(name):
 
 class Judge:
     def __init__(self):
-        self.sent = collections.defaultdict(list)  # by hart and channel
-        self.taken = collections.Counter()
+        self.waits = collections.defaultdict(list)  # by hart and channel
         self.count = collections.Counter()  # by way, kind, line and hart
         self.grows = collections.defaultdict(list)  # by hart and line, what was taken of Acquires
         self.lost = {}
@@ -70,8 +69,7 @@ class Judge:
     def by_counts(self, e):
         if e.way == "t":
             queue = e.hart, CHANNEL[e.name]
-            front = self.sent[queue][self.taken[queue]:][:1]
-            return set() if front == [e._replace(way="s")] else {"in-order"}
+            return set() if self.waits[queue][:1] == [e._replace(way="s")] else {"in-order"}
         of, broken = kind(e.name), set()
         grants = self.is_open(e, "Grant", "GrantAck", own=False)
         acquire = self.is_open(e, "AcquireBlock", "Grant")
@@ -113,9 +111,9 @@ class Judge:
         of, here, queue = kind(e.name), (e.hart, e.line), (e.hart, CHANNEL[e.name])
         self.count[e.way, of, e.line, e.hart] += 1
         if e.way == "s":
-            self.sent[queue].append(e)
+            self.waits[queue].append(e)
         else:
-            self.taken[queue] += 1
+            self.waits[queue][:1] = []
         if of == "AcquireBlock":
             if e.way == "t":
                 self.grows[here].append(e.change)

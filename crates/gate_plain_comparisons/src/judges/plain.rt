@@ -124,21 +124,30 @@ fn is_owed(before: &[Logged], question: Kind, answer: Kind, entry: &Logged) -> b
 
 // Whether the message is the first of those that went into its queue and didn't come out.
 fn is_front(before: &[Logged], entry: &Logged) -> bool {
-    let mut taken = 0_usize;
-    for e in before {
-        if is_of_queue(e, entry, Direction::Taken) {
-            taken = taken.saturating_add(1);
-        }
-    }
+    let mut gone = gone_from(before, entry);
     for e in before {
         if is_of_queue(e, entry, Direction::Sent) {
-            if taken == 0 {
+            if gone == 0 {
                 return e.message == entry.message;
             }
-            taken = taken.saturating_sub(1);
+            gone = gone.saturating_sub(1);
         }
     }
     false
+}
+
+// How many went out of its queue: what is taken of an empty queue was in none.
+fn gone_from(before: &[Logged], entry: &Logged) -> usize {
+    let (mut waiting, mut gone) = (0_usize, 0_usize);
+    for e in before {
+        if is_of_queue(e, entry, Direction::Sent) {
+            waiting = waiting.saturating_add(1);
+        } else if is_of_queue(e, entry, Direction::Taken) && waiting > 0 {
+            waiting = waiting.saturating_sub(1);
+            gone = gone.saturating_add(1);
+        }
+    }
+    gone
 }
 
 fn is_of_queue(e: &Logged, entry: &Logged, way: Direction) -> bool {
