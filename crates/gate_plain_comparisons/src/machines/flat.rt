@@ -2,6 +2,7 @@
 
 use super::WORD;
 use super::pair::image_of_words;
+use crate::judges::are_lawful;
 use crate::lockstep::{Counts, Failures, Lockstep};
 use crate::numbers::Numbers;
 use anyhow::{Context, Result, bail, ensure};
@@ -78,7 +79,7 @@ fn event_of(number: u32) -> Event {
 }
 
 /// Plays so many events of the stream, and fails at the first difference, or where no SC succeeds, or none
-/// fails for no reason that a program shows.
+/// fails for no reason that a program shows, or where the machine's messages aren't lawful.
 pub fn every_flat_event(
     alloc: Global,
     model: MemoryModel,
@@ -87,7 +88,9 @@ pub fn every_flat_event(
 ) -> Result<Counts> {
     let config = Config::new(2, 1, ways, LineSize::Bytes16, model).context("a configuration")?;
     let mut lockstep = at_reset(alloc, config)?;
-    play(&mut lockstep, events)
+    let counts = play(&mut lockstep, events)?;
+    are_lawful(alloc, lockstep.trace())?;
+    Ok(counts)
 }
 
 fn at_reset(alloc: Global, config: Config) -> Result<Lockstep> {
