@@ -1,15 +1,10 @@
 -- A text that is blanked from the left.
 use Rattle.std.proofs.Common.{◌≡◌, ℕ, zero, suc, ◌+◌, ◌-◌, ◌<◌, ◌≤◌, Bool, true, false, cond, List, [], ◌∷◌, ◌++◌, length, get_or, take, drop, refl, sym, ap, subst, ◌∙◌, append_assoc, arith}
-use Rattle.std.proofs.lemmas.List.{append-nil, take_all}
-use Rattle.std.specs.Prelude.{◌==◌, ◌&&◌, ◌||◌, Option, Some, None, Result, Ok, Err}
-use Rattle.text_words.specs.Comments.{uncommented, with_byte, pass, at_end, open_comment, depth_of, behind_mark, blank_for, is_next}
+use Rattle.std.proofs.lemmas.List.{append-nil, drop_more, take_all, take_more}
+use Rattle.std.specs.Prelude.{◌==◌, ◌&&◌, ◌||◌, not, Option, Some, None, Result, Ok, Err}
+use Rattle.text_words.specs.Comments.{uncommented, behind, with_byte, pass, is_plain, at_end, open_comment, depth_of, behind_mark, blank_for, is_next}
 use Rattle.text_words.specs.declared.comments.Place.{Place}
 use Rattle.text_words.specs.declared.comments.Place.TheVariants.{Text, Quotation, Mark, Comment}
-
--- what is blanked behind bytes that are blanked already
-abbrev pub behind : List ℕ → Result (List ℕ) ℕ → Result (List ℕ) ℕ
-behind front (Ok bytes) = Ok (front ++ bytes)
-behind front (Err left) = Err left
 
 pub behind_none : (read : Result (List ℕ) ℕ) → behind [] read ≡ read
 behind_none (Ok bytes) = refl
@@ -23,6 +18,45 @@ behind_byte front b (Err left) = refl
 pub blanked_more : (front : List ℕ) (place : Place) (b : ℕ) (bytes : List ℕ) (total : Result (List ℕ) ℕ) → behind front (uncommented place (b ∷ bytes)) ≡ total → behind (front ++ (pass place b bytes).1 ∷ []) (uncommented (pass place b bytes).0 bytes) ≡ total
 unfolding uncommented
 blanked_more front place b bytes total h = sym (behind_byte front (pass place b bytes).1 (uncommented (pass place b bytes).0 bytes)) ∙ h
+
+-- a byte that stands for itself
+quoted_byte : (test : Bool) (b : ℕ) (p : Place × ℕ) → not test ≡ true → cond test p (Quotation, b) ≡ (Quotation, b)
+quoted_byte true b p h = absurd cc
+quoted_byte false b p h = refl
+
+text_byte : (quote mark next : Bool) (b : ℕ) (p q : Place × ℕ) → not (quote || mark) ≡ true → cond quote p (cond (mark && next) q (Text, b)) ≡ (Text, b)
+text_byte true mark next b p q h = absurd cc
+text_byte false true next b p q h = absurd cc
+text_byte false false next b p q h = refl
+
+passed_plain : (place : Place) (b : ℕ) (bytes : List ℕ) → is_plain place b ≡ true → pass place b bytes ≡ (place, b)
+unfolding pass
+passed_plain Text b bytes h = text_byte (b == 34) (b == 40) (is_next 42 bytes) b (Quotation, b) (Mark 1 (length bytes), 32) h
+passed_plain Quotation b bytes h = quoted_byte (b == 34 || b == 10) b (Text, b) h
+passed_plain (Mark depth start) b bytes h = absurd cc
+passed_plain (Comment depth start) b bytes h = absurd cc
+
+plain_byte : (place : Place) (b : ℕ) (bytes : List ℕ) → is_plain place b ≡ true → uncommented place (b ∷ bytes) ≡ with_byte b (uncommented place bytes)
+unfolding uncommented
+plain_byte place b bytes h = ap (λ (n : Place × ℕ). with_byte n.1 (uncommented n.0 bytes)) (passed_plain place b bytes h)
+
+pub plain_more : (place : Place) (bytes : List ℕ) (i : ℕ) (test : Bool) → i < length bytes → test ≡ is_plain place (get_or bytes i 0) → test ≡ true → uncommented place bytes ≡ behind (take i bytes) (uncommented place (drop i bytes)) → uncommented place bytes ≡ behind (take (i + 1) bytes) (uncommented place (drop (i + 1) bytes))
+plain_more place bytes i test lt is on h =
+    let b : ℕ = get_or bytes i 0 in
+    let later : List ℕ = drop (i + 1) bytes in
+    h
+    ∙ ap (λ (l : List ℕ). behind (take i bytes) (uncommented place l)) (drop_more bytes i 0 lt)
+    ∙ ap (behind (take i bytes)) (plain_byte place b later (sym is ∙ on))
+    ∙ behind_byte (take i bytes) b (uncommented place later)
+    ∙ ap (λ (l : List ℕ). behind l (uncommented place later)) (sym (take_more bytes i 0 lt))
+
+behind_both : (front more : List ℕ) (read : Result (List ℕ) ℕ) → behind (front ++ more) read ≡ behind front (behind more read)
+behind_both front more (Ok bytes) = ap (λ (l : List ℕ). Ok l) (append_assoc front more bytes)
+behind_both front more (Err left) = refl
+
+-- what stands for itself is passed at once
+pub behind_plain : (place : Place) (front bytes : List ℕ) (i : ℕ) → uncommented place bytes ≡ behind (take i bytes) (uncommented place (drop i bytes)) → behind (front ++ take i bytes) (uncommented place (drop i bytes)) ≡ behind front (uncommented place bytes)
+behind_plain place front bytes i h = behind_both front (take i bytes) (uncommented place (drop i bytes)) ∙ ap (behind front) (sym h)
 
 -- nothing is left
 pub blanked_all : (front : List ℕ) (place : Place) (bytes : List ℕ) (open_now : Option ℕ) (total : Result (List ℕ) ℕ) → length bytes < 1 → open_now ≡ open_comment place → behind front (uncommented place bytes) ≡ total → total ≡ behind front (at_end open_now)

@@ -1,5 +1,5 @@
 -- Comments, which count as blanks: (* and *) enclose them, and they nest.
-use Rattle.std.specs.Prelude.{◌≡◌, ℕ, zero, suc, ◌+◌, ◌-◌, Bool, true, false, ◌==◌, ◌||◌, ◌&&◌, List, [], ◌∷◌, length, Option, Some, None, Result, Ok, Err, if◌then◌else◌}
+use Rattle.std.specs.Prelude.{◌≡◌, ℕ, zero, suc, ◌+◌, ◌-◌, Bool, true, false, ◌==◌, ◌||◌, ◌&&◌, not, List, [], ◌∷◌, ◌++◌, length, Option, Some, None, Result, Ok, Err, if◌then◌else◌}
 use Rattle.text_words.specs.declared.comments.Place.{Place}
 use Rattle.text_words.specs.declared.comments.Place.TheVariants.{Text, Quotation, Mark, Comment}
 use Rattle.text_words.specs.declared.comments.CommentError.{CommentError}
@@ -39,6 +39,13 @@ pass Quotation b bytes = if b == 34 || b == 10 then (Text, b) else (Quotation, b
 pass (Mark depth start) b bytes = (behind_mark depth start, 32)
 pass (Comment depth start) b bytes = pass_comment depth start b bytes
 
+-- this byte stands for itself, and one stands behind it where one stood before
+abbrev pub is_plain : Place → ℕ → Bool
+is_plain Text b = not (b == 34 || b == 40)
+is_plain Quotation b = not (b == 34 || b == 10)
+is_plain (Mark depth start) b = false
+is_plain (Comment depth start) b = false
+
 -- what a reader has of the text before, and one more byte
 abbrev pub with_byte : ℕ → Result (List ℕ) ℕ → Result (List ℕ) ℕ
 with_byte b (Ok bytes) = Ok (b ∷ bytes)
@@ -60,6 +67,11 @@ at_end (Some left) = Err left
 unfoldable pub uncommented : Place → List ℕ → Result (List ℕ) ℕ
 uncommented place [] = at_end (open_comment place)
 uncommented place (b ∷ bytes) = with_byte (pass place b bytes).1 (uncommented (pass place b bytes).0 bytes)
+
+-- what stands for a text, behind what stands for the text before it
+abbrev pub behind : List ℕ → Result (List ℕ) ℕ → Result (List ℕ) ℕ
+behind front (Ok bytes) = Ok (front ++ bytes)
+behind front (Err left) = Err left
 
 -- how many comments are open
 abbrev pub depth_of : Place → ℕ
