@@ -1,8 +1,9 @@
 -- A text that is blanked from the left.
 use Rattle.std.proofs.Common.{◌≡◌, ℕ, zero, suc, ◌+◌, ◌-◌, ◌<◌, ◌≤◌, Bool, true, false, cond, List, [], ◌∷◌, ◌++◌, length, get_or, take, drop, refl, sym, ap, subst, ◌∙◌, append_assoc, arith}
+use Rattle.std.proofs.lemmas.Bool.{ne_eqb}
 use Rattle.std.proofs.lemmas.List.{append-nil, drop_more, take_all, take_more}
-use Rattle.std.specs.Prelude.{◌==◌, ◌&&◌, ◌||◌, not, Option, Some, None, Result, Ok, Err}
-use Rattle.text_words.specs.Comments.{uncommented, behind, with_byte, pass, is_plain, at_end, open_comment, depth_of, behind_mark, blank_for, is_next}
+use Rattle.std.specs.Prelude.{◌==◌, ◌&&◌, ◌||◌, Option, Some, None, Result, Ok, Err}
+use Rattle.text_words.specs.Comments.{uncommented, behind, with_byte, pass, at_end, open_comment, depth_of, behind_mark, blank_for, is_next}
 use Rattle.text_words.specs.declared.comments.Place.{Place}
 use Rattle.text_words.specs.declared.comments.Place.TheVariants.{Text, Quotation, Mark, Comment}
 
@@ -20,35 +21,32 @@ unfolding uncommented
 blanked_more front place b bytes total h = sym (behind_byte front (pass place b bytes).1 (uncommented (pass place b bytes).0 bytes)) ∙ h
 
 -- a byte that stands for itself
-quoted_byte : (test : Bool) (b : ℕ) (p : Place × ℕ) → not test ≡ true → cond test p (Quotation, b) ≡ (Quotation, b)
-quoted_byte true b p h = absurd cc
-quoted_byte false b p h = refl
+text_byte : (b : ℕ) (bytes : List ℕ) → (b == 34) ≡ false → (b == 40) ≡ false → uncommented Text (b ∷ bytes) ≡ with_byte b (uncommented Text bytes)
+unfolding uncommented pass
+text_byte b bytes quote mark = rw (quote, mark) refl
 
-text_byte : (quote mark next : Bool) (b : ℕ) (p q : Place × ℕ) → not (quote || mark) ≡ true → cond quote p (cond (mark && next) q (Text, b)) ≡ (Text, b)
-text_byte true mark next b p q h = absurd cc
-text_byte false true next b p q h = absurd cc
-text_byte false false next b p q h = refl
+quoted_byte : (b : ℕ) (bytes : List ℕ) → (b == 34) ≡ false → (b == 10) ≡ false → uncommented Quotation (b ∷ bytes) ≡ with_byte b (uncommented Quotation bytes)
+unfolding uncommented pass
+quoted_byte b bytes quote end = rw (quote, end) refl
 
-passed_plain : (place : Place) (b : ℕ) (bytes : List ℕ) → is_plain place b ≡ true → pass place b bytes ≡ (place, b)
-unfolding pass
-passed_plain Text b bytes h = text_byte (b == 34) (b == 40) (is_next 42 bytes) b (Quotation, b) (Mark 1 (length bytes), 32) h
-passed_plain Quotation b bytes h = quoted_byte (b == 34 || b == 10) b (Text, b) h
-passed_plain (Mark depth start) b bytes h = absurd cc
-passed_plain (Comment depth start) b bytes h = absurd cc
-
-plain_byte : (place : Place) (b : ℕ) (bytes : List ℕ) → is_plain place b ≡ true → uncommented place (b ∷ bytes) ≡ with_byte b (uncommented place bytes)
-unfolding uncommented
-plain_byte place b bytes h = ap (λ (n : Place × ℕ). with_byte n.1 (uncommented n.0 bytes)) (passed_plain place b bytes h)
-
-pub plain_more : (place : Place) (bytes : List ℕ) (i : ℕ) (test : Bool) → i < length bytes → test ≡ is_plain place (get_or bytes i 0) → test ≡ true → uncommented place bytes ≡ behind (take i bytes) (uncommented place (drop i bytes)) → uncommented place bytes ≡ behind (take (i + 1) bytes) (uncommented place (drop (i + 1) bytes))
-plain_more place bytes i test lt is on h =
+plain_more : (place : Place) (bytes : List ℕ) (i : ℕ) → i < length bytes → uncommented place (get_or bytes i 0 ∷ drop (i + 1) bytes) ≡ with_byte (get_or bytes i 0) (uncommented place (drop (i + 1) bytes)) → uncommented place bytes ≡ behind (take i bytes) (uncommented place (drop i bytes)) → uncommented place bytes ≡ behind (take (i + 1) bytes) (uncommented place (drop (i + 1) bytes))
+plain_more place bytes i lt is h =
     let b : ℕ = get_or bytes i 0 in
     let later : List ℕ = drop (i + 1) bytes in
     h
     ∙ ap (λ (l : List ℕ). behind (take i bytes) (uncommented place l)) (drop_more bytes i 0 lt)
-    ∙ ap (behind (take i bytes)) (plain_byte place b later (sym is ∙ on))
+    ∙ ap (behind (take i bytes)) is
     ∙ behind_byte (take i bytes) b (uncommented place later)
     ∙ ap (λ (l : List ℕ). behind l (uncommented place later)) (sym (take_more bytes i 0 lt))
+
+pub text_more : (bytes : List ℕ) (i : ℕ) → i < length bytes → (get_or bytes i 0 ≡ 34 → ⊥) → (get_or bytes i 0 ≡ 40 → ⊥) → uncommented Text bytes ≡ behind (take i bytes) (uncommented Text (drop i bytes)) → uncommented Text bytes ≡ behind (take (i + 1) bytes) (uncommented Text (drop (i + 1) bytes))
+text_more bytes i lt quote mark = plain_more Text bytes i lt (text_byte (get_or bytes i 0) (drop (i + 1) bytes) (ne_eqb (get_or bytes i 0) 34 quote) (ne_eqb (get_or bytes i 0) 40 mark))
+
+pub quoted_more : (bytes : List ℕ) (i : ℕ) → i < length bytes → (get_or bytes i 0 ≡ 34 → ⊥) → (get_or bytes i 0 ≡ 10 → ⊥) → uncommented Quotation bytes ≡ behind (take i bytes) (uncommented Quotation (drop i bytes)) → uncommented Quotation bytes ≡ behind (take (i + 1) bytes) (uncommented Quotation (drop (i + 1) bytes))
+quoted_more bytes i lt quote end = plain_more Quotation bytes i lt (quoted_byte (get_or bytes i 0) (drop (i + 1) bytes) (ne_eqb (get_or bytes i 0) 34 quote) (ne_eqb (get_or bytes i 0) 10 end))
+
+pub none_plain : (place : Place) (bytes : List ℕ) → uncommented place bytes ≡ behind [] (uncommented place bytes)
+none_plain place bytes = sym (behind_none (uncommented place bytes))
 
 behind_both : (front more : List ℕ) (read : Result (List ℕ) ℕ) → behind (front ++ more) read ≡ behind front (behind more read)
 behind_both front more (Ok bytes) = ap (λ (l : List ℕ). Ok l) (append_assoc front more bytes)

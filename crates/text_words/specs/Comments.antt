@@ -1,5 +1,5 @@
 -- Comments, which count as blanks: (* and *) enclose them, and they nest.
-use Rattle.std.specs.Prelude.{◌≡◌, ℕ, zero, suc, ◌+◌, ◌-◌, Bool, true, false, ◌==◌, ◌||◌, ◌&&◌, not, List, [], ◌∷◌, ◌++◌, length, Option, Some, None, Result, Ok, Err, if◌then◌else◌}
+use Rattle.std.specs.Prelude.{◌≡◌, ℕ, zero, suc, ◌+◌, ◌-◌, Bool, true, false, ◌==◌, ◌||◌, ◌&&◌, List, [], ◌∷◌, ◌++◌, length, Option, Some, None, Result, Ok, Err, if◌then◌else◌}
 use Rattle.text_words.specs.declared.comments.Place.{Place}
 use Rattle.text_words.specs.declared.comments.Place.TheVariants.{Text, Quotation, Mark, Comment}
 use Rattle.text_words.specs.declared.comments.CommentError.{CommentError}
@@ -38,13 +38,6 @@ pass Text b bytes = pass_text b bytes
 pass Quotation b bytes = if b == 34 || b == 10 then (Text, b) else (Quotation, b)
 pass (Mark depth start) b bytes = (behind_mark depth start, 32)
 pass (Comment depth start) b bytes = pass_comment depth start b bytes
-
--- this byte stands for itself, and one stands behind it where one stood before
-abbrev pub is_plain : Place → ℕ → Bool
-is_plain Text b = not (b == 34 || b == 40)
-is_plain Quotation b = not (b == 34 || b == 10)
-is_plain (Mark depth start) b = false
-is_plain (Comment depth start) b = false
 
 -- what a reader has of the text before, and one more byte
 abbrev pub with_byte : ℕ → Result (List ℕ) ℕ → Result (List ℕ) ℕ

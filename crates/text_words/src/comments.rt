@@ -90,25 +90,14 @@ fn open_comment(place: Place) -> Option<usize>
     }
 }
 
-/// Whether a byte stands for itself, and one stands behind it where one stood before.
-fn is_plain(place: Place, byte: u8) -> bool
-    ensures { result ≡ comments.is_plain place byte }
-{
-    match place {
-        Place::Text => byte != b'"' && byte != b'(',
-        Place::Quotation => byte != b'"' && byte != b'\n',
-        Place::Mark { .. } | Place::Comment { .. } => false,
-    }
-}
-
-/// How many bytes at the front are plain.
-fn plain_length(place: Place, bytes: &[u8]) -> usize
+/// How many bytes at the front of a text outside of comments and quotations begin neither.
+fn text_length(bytes: &[u8]) -> usize
     ensures most { result ≤ length bytes.now }
-    ensures same { comments.uncommented place bytes.now ≡ comments.behind (take result bytes.now) (comments.uncommented place (drop result bytes.now)) }
+    ensures same { comments.uncommented Place.Text bytes.now ≡ comments.behind (take result bytes.now) (comments.uncommented Place.Text (drop result bytes.now)) }
 {
     let mut length = 0;
     for byte in bytes {
-        if !is_plain(place, *byte) {
+        if *byte == b'"' || *byte == b'(' {
             break;
         }
         length += 1;
@@ -116,7 +105,35 @@ fn plain_length(place: Place, bytes: &[u8]) -> usize
     length
 }
 
-/// Adds the bytes at the front that are plain, and answers what stands behind them.
+/// How many bytes at the front of a quotation don't end it.
+fn quoted_length(bytes: &[u8]) -> usize
+    ensures most { result ≤ length bytes.now }
+    ensures same { comments.uncommented Place.Quotation bytes.now ≡ comments.behind (take result bytes.now) (comments.uncommented Place.Quotation (drop result bytes.now)) }
+{
+    let mut length = 0;
+    for byte in bytes {
+        if *byte == b'"' || *byte == b'\n' {
+            break;
+        }
+        length += 1;
+    }
+    length
+}
+
+/// How many bytes at the front stand for themselves, without a change of place; no more than there are.
+#[tactic(auto, using(crate::proofs::Blanking::none_plain))]
+fn plain_length(place: Place, bytes: &[u8]) -> usize
+    ensures most { result ≤ length bytes.now }
+    ensures same { comments.uncommented place bytes.now ≡ comments.behind (take result bytes.now) (comments.uncommented place (drop result bytes.now)) }
+{
+    match place {
+        Place::Text => text_length(bytes),
+        Place::Quotation => quoted_length(bytes),
+        Place::Mark { .. } | Place::Comment { .. } => 0,
+    }
+}
+
+/// Adds bytes at the front that stand for themselves, and answers what stands behind them.
 fn put_plain<'a>(place: Place, bytes: &'a [u8], out: &mut Vec<u8>) -> Result<&'a [u8], AllocError>
     ensures { IfOk result (λ rest. (length rest.now ≤ length bytes.entry.now) × (comments.behind out.new.items (comments.uncommented place rest.now) ≡ comments.behind out.old.items (comments.uncommented place bytes.entry.now))) }
 {

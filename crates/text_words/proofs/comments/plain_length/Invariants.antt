@@ -1,6 +1,0 @@
-use Rattle.std.proofs.Common.{◌≡◌, length, take, drop}
-use Rattle.text_words.specs.Comments.{uncommented, behind}
-use Rattle.text_words.proofs.comments.plain_length.Given as goal
-
-abbrev pub invariant-loop-byte : goal.invariant-loop-byte
-invariant-loop-byte l = (l.length ≡ l.byte-index) × (uncommented l.place l.bytes ≡ behind (take l.byte-index l.bytes) (uncommented l.place (drop l.byte-index l.bytes)))
