@@ -1,5 +1,5 @@
 -- Words that are compared from the left.
-use Rattle.std.proofs.Common.{◌≡◌, ℕ, ◌≤◌, Bool, true, false, cond, List, [], ◌∷◌, length, refl, sym, ap, ◌∙◌, arith}
+use Rattle.std.proofs.Common.{◌≡◌, ℕ, ◌≤◌, Bool, true, false, cond, List, [], ◌∷◌, length, refl, sym, ap, ◌∙◌, true≢false, arith}
 use Rattle.std.proofs.lemmas.Bool.{eqb-true, eq-eqb, ne_eqb}
 use Rattle.std.specs.Prelude.{◌==◌, ◌&&◌, nat_eq, Option, Some, None}
 use Rattle.std.specs.Str.{bytes_eq}
@@ -16,11 +16,8 @@ swapped a b = go (nat_eq a b) refl (nat_eq b a) refl
   where
     go : (one : Bool) → one ≡ nat_eq a b → (other : Bool) → other ≡ nat_eq b a → nat_eq a b ≡ nat_eq b a
     go true e other f = sym e ∙ sym (eq-eqb b a (sym (eqb-true a b (sym e))))
-    go false e true f = absurd (true_false (sym (eq-eqb a b (sym (eqb-true b a (sym f)))) ∙ sym e))
+    go false e true f = absurd (true≢false (sym (eq-eqb a b (sym (eqb-true b a (sym f)))) ∙ sym e))
     go false e false f = sym e ∙ f
-
-    true_false : true ≡ false → ⊥
-    true_false h = absurd cc
 
 compared : (xs ys : List ℕ) → is_end (after xs ys) ≡ bytes_eq xs ys
 compared [] [] = refl
