@@ -1,18 +1,24 @@
 #!/usr/bin/env python3
-"""Compares what `assembly_reading` makes of 600 texts with what GNU as makes of them (riscv64-unknown-elf-as, of the
-package binutils-riscv64-unknown-elf): the words, or that it is no instruction. Writes the texts with the assembler's
+"""Compares what `assembly_reading` makes of 600 texts with what an assembler makes of them, GNU as (riscv64-unknown-elf-as,
+of the package binutils-riscv64-unknown-elf) or, where that is missing, llvm-mc: the words, or that it is no instruction. Writes the texts with the assembler's
 words as a test into a copy of the crate, and runs it by `rt try`.
 
     tools/assembler_words.py [SEED]
 """
 import os
 import random
+import re
 import shutil
 import subprocess
 import sys
 import tempfile
 
 COUNT = 600
+ASSEMBLERS = {
+    "GNU as": (["riscv64-unknown-elf-as", "-march=rv32ima", "-mabi=ilp32", "-mno-relax"], "riscv64-unknown-elf-objcopy"),
+    "llvm-mc": (["llvm-mc", "--triple=riscv32", "--mattr=+m,+a,-relax", "--filetype=obj"], "llvm-objcopy"),
+}
+NAME = "GNU as" if shutil.which("riscv64-unknown-elf-as") else "llvm-mc"
 ABI = "zero ra sp gp tp t0 t1 t2 s0 s1 a0 a1 a2 a3 a4 a5 a6 a7 s2 s3 s4 s5 s6 s7 s8 s9 s10 s11 t3 t4 t5 t6 fp".split()
 LOADS = "lb lh lw lbu lhu".split()
 STORES = "sb sh sw".split()
@@ -86,14 +92,17 @@ def texts(rng):
 
 
 def assembled(folder, text):
-    """The words that GNU as makes of a text, or None."""
+    """The words that the assembler makes of a text, or None."""
     source, made, words = (os.path.join(folder, name) for name in ("a.s", "a.o", "a.bin"))
+    if NAME == "llvm-mc":
+        # It takes a distance as a number alone.
+        text = re.sub(r"\.\+?(-?\d+)$", r"\1", text)
     with open(source, "w") as out:
         out.write(text + "\n")
-    call = ["riscv64-unknown-elf-as", "-march=rv32ima", "-mabi=ilp32", "-mno-relax", source, "-o", made]
-    if subprocess.run(call, capture_output=True).returncode:
+    call, copier = ASSEMBLERS[NAME]
+    if subprocess.run([*call, source, "-o", made], capture_output=True).returncode:
         return None
-    subprocess.run(["riscv64-unknown-elf-objcopy", "-O", "binary", made, words], check=True)
+    subprocess.run([copier, "-O", "binary", made, words], check=True)
     with open(words, "rb") as read:
         found = read.read()
     return [int.from_bytes(found[i : i + 4], "little") for i in range(0, len(found), 4)]
@@ -117,7 +126,7 @@ fn texts_make_the_assemblers_words(rt: HostRuntime) -> Result<(), Fail> {
         let (one, two) = words_of(text);
         if one != *first || two != *second {
             let text = text.escape_ascii();
-            println!(rt; "differs: {text} is {one:#x} {two:#x}, by GNU as {first:#x} {second:#x}")?;
+            println!(rt; "differs: {text} is {one:#x} {two:#x}, by the assembler {first:#x} {second:#x}")?;
         }
     }
     Ok(())
@@ -140,7 +149,7 @@ def main():
         run = subprocess.run(["rt", "try", "--test"], cwd=os.path.dirname(os.path.dirname(test)), capture_output=True, text=True)
         differs = [line.strip() for line in (run.stdout + run.stderr).splitlines() if line.strip().startswith("differs")]
         print("\n".join(differs) if differs else run.stdout[-2000:] + run.stderr[-2000:])
-        print("%d texts, %d of them no instruction for GNU as, %d differ" % (len(rows), sum("0x0, 0x0" in r for r in rows), len(differs)))
+        print("%d texts, %d of them no instruction for %s, %d differ" % (len(rows), sum("0x0, 0x0" in r for r in rows), NAME, len(differs)))
         sys.exit(1 if differs or run.returncode else 0)
 
 

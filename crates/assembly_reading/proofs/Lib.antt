@@ -7,3 +7,4 @@ pub mod ReadBack
 pub mod Spelling
 pub mod Splitting
 pub mod Suffixing
+pub mod Matching

@@ -1,10 +1,11 @@
 -- What a table of names has is in its range.
-use Rattle.std.proofs.Common.{◌≡◌, ◌<◌, ℕ, Bool, true, false, cond, List, [], ◌∷◌, sym, subst, arith}
-use Rattle.std.specs.Prelude.{Option, Some, IfSome}
+use Rattle.std.proofs.Common.{◌≡◌, ◌<◌, ◌≤◌, ℕ, Bool, true, false, cond, List, [], ◌∷◌, length, get_or, refl, sym, subst, arith}
+use Rattle.std.proofs.lemmas.Bool.{ne_eqb}
+use Rattle.std.specs.Prelude.{Option, Some, None, IfSome}
 use Rattle.std.specs.List.{AllByRecursion}
 use Rattle.std.specs.Str.{bytes_eq}
 use Rattle.assembly_reading.specs.Tables.{found}
-use Rattle.assembly_reading.specs.Registers.{names, named}
+use Rattle.assembly_reading.specs.Registers.{names, named, register_of}
 use Rattle.assembly_reading.specs.Sets.{letters, set_of}
 
 -- what holds of each meaning holds of the one that is found
@@ -23,3 +24,10 @@ named_below word result is = subst (λ (r : Option ℕ). IfSome r (λ n. n < 32)
 pub set_below : (word : List ℕ) (result : Option ℕ) → result ≡ set_of word → IfSome result (λ n. n < 16)
 unfolding set_of
 set_below word result is = subst (λ (r : Option ℕ). IfSome r (λ n. n < 16)) (sym is) (found_one (λ n. n < 16) letters word (grind arith))
+
+-- no name begins with a digit
+pub digit_unnamed : (word : List ℕ) → 1 ≤ length word → 48 ≤ get_or word 0 0 → get_or word 0 0 ≤ 57 → None ≡ register_of word
+unfolding register_of named
+digit_unnamed [] some low high = absurd (omega arith)
+digit_unnamed (b ∷ bytes) some low high =
+    rw (ne_eqb b 120 (λ e. omega arith), ne_eqb 122 b (λ e. omega arith), ne_eqb 114 b (λ e. omega arith), ne_eqb 115 b (λ e. omega arith), ne_eqb 103 b (λ e. omega arith), ne_eqb 116 b (λ e. omega arith), ne_eqb 97 b (λ e. omega arith), ne_eqb 102 b (λ e. omega arith)) refl

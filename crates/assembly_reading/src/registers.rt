@@ -64,13 +64,15 @@ fn named(word: &[u8]) -> Option<u8>
     find(&NAMES, word)
 }
 
-#[tactic(auto, unfolding(crate::specs::Registers::register_of), using(crate::proofs::Names::named_below))]
+#[tactic(auto, unfolding(crate::specs::Registers::register_of), using(crate::proofs::Names::named_below, crate::proofs::Names::digit_unnamed))]
 fn number_of(word: &[u8]) -> Option<u8>
     ensures value { result ≡ registers.register_of word.now }
     ensures below { IfSome result (λ n. n < 32) }
 {
     match word {
         [b'x', digits @ ..] => numbered(digits),
+        // So that no number is looked up among the names.
+        [b'0'..=b'9', ..] => None,
         _ => named(word),
     }
 }

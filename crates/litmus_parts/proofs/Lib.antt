@@ -1,3 +1,4 @@
 pub mod Reading
 pub mod Adding
 pub mod Loops
+pub mod Labels

@@ -8,7 +8,7 @@ ghost use Rattle.litmus_parts.specs.Stops.{seen};
 use crate::scanning::{is_same, split_until};
 use crate::stop::{Cause, Stop};
 use text_fields::after;
-use text_words::{LONGEST_NAME, Name, name_at, skip_blanks, split_word, symbol_at};
+use text_words::{LONGEST_NAME, Name, is_name, skip_blanks, split_word, symbol_at};
 
 /// Other architectures whose tests are written so.
 const OTHERS: [&[u8]; 14] = [
@@ -112,16 +112,17 @@ fn past_quotation(bytes: &[u8]) -> Result<&[u8], Stop>
 }
 
 /// What stands behind a line `KEY=text`.
-#[tactic(auto, unfolding(crate::specs::Header::past_entry))]
+#[tactic(auto, using(crate::proofs::Labels::entry_none, crate::proofs::Labels::entry_open, crate::proofs::Labels::entry_some))]
 fn past_entry(bytes: &[u8]) -> Result<&[u8], Stop>
     ensures { seen (λ x. x.now) result ≡ header.past_entry bytes.now }
 {
     let (line, rest) = split_until(b"\n", skip_blanks(bytes));
-    match name_at(line) {
-        Some((_, behind)) => match symbol_at(b"=", behind) {
-            Some(_) => Ok(rest),
-            None => Err(Stop::at(Cause::Entry, bytes)),
-        },
+    let (key, behind) = split_word(skip_blanks(line));
+    if !is_name(key) {
+        return Err(Stop::at(Cause::Entry, bytes));
+    }
+    match symbol_at(b"=", behind) {
+        Some(_) => Ok(rest),
         None => Err(Stop::at(Cause::Entry, bytes)),
     }
 }

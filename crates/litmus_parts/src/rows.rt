@@ -8,7 +8,7 @@ use crate::initial::MOST_HARTS;
 use crate::scanning::{is_same, keyword_at, split_until};
 use crate::stop::{Cause, Stop};
 use text_fields::after;
-use text_words::{Name, name_at, skip_blanks, split_word, symbol_at};
+use text_words::{Name, is_name, skip_blanks, split_word, symbol_at};
 
 /// What stands in a cell of a hart's column. Of its text, `left` is how many bytes stand from its first one to the file's end.
 #[derive(Clone, Copy)]
@@ -68,16 +68,17 @@ pub(crate) fn head_at(bytes: &[u8]) -> Result<(u8, &[u8]), Stop>
     Err(Stop::at(Cause::FewHarts, rest))
 }
 
-/// A label, and what stands behind its colon.
-#[tactic(auto, unfolding(crate::specs::Rows::label_at))]
+/// A label, and what stands behind its colon. Most cells have none, so that no name is made before the colon is seen.
+#[tactic(auto, using(crate::proofs::Labels::label_none, crate::proofs::Labels::label_open, crate::proofs::Labels::label_some))]
 pub(crate) fn label_at(bytes: &[u8]) -> Option<(Name, &[u8])>
     ensures { option_map (λ x. (x.0, x.1.now)) result ≡ rows.label_at bytes.now }
 {
-    match name_at(bytes) {
-        Some((name, rest)) => match symbol_at(b":", rest) {
-            Some(rest) => Some((name, rest)),
-            None => None,
-        },
+    let (word, rest) = split_word(skip_blanks(bytes));
+    if !is_name(word) {
+        return None;
+    }
+    match symbol_at(b":", rest) {
+        Some(rest) => Some((Name::of(word), rest)),
         None => None,
     }
 }

@@ -1,5 +1,5 @@
 -- Comments, which count as blanks: (* and *) enclose them, and they nest.
-use Rattle.std.specs.Prelude.{◌≡◌, ℕ, zero, suc, ◌+◌, ◌-◌, Bool, true, false, ◌==◌, ◌||◌, ◌&&◌, List, [], ◌∷◌, length, Option, Some, None, Result, Ok, Err, if◌then◌else◌}
+use Rattle.std.specs.Prelude.{◌≡◌, ℕ, zero, suc, ◌+◌, ◌-◌, Bool, true, false, ◌==◌, ◌||◌, ◌&&◌, List, [], ◌∷◌, ◌++◌, length, Option, Some, None, Result, Ok, Err, if◌then◌else◌}
 use Rattle.text_words.specs.declared.comments.Place.{Place}
 use Rattle.text_words.specs.declared.comments.Place.TheVariants.{Text, Quotation, Mark, Comment}
 use Rattle.text_words.specs.declared.comments.CommentError.{CommentError}
@@ -60,6 +60,11 @@ at_end (Some left) = Err left
 unfoldable pub uncommented : Place → List ℕ → Result (List ℕ) ℕ
 uncommented place [] = at_end (open_comment place)
 uncommented place (b ∷ bytes) = with_byte (pass place b bytes).1 (uncommented (pass place b bytes).0 bytes)
+
+-- what stands for a text, behind what stands for the text before it
+abbrev pub behind : List ℕ → Result (List ℕ) ℕ → Result (List ℕ) ℕ
+behind front (Ok bytes) = Ok (front ++ bytes)
+behind front (Err left) = Err left
 
 -- how many comments are open
 abbrev pub depth_of : Place → ℕ

@@ -38,7 +38,7 @@ pub fn symbol_at<'a>(symbol: &[u8], bytes: &'a [u8]) -> Option<&'a [u8]>
 }
 
 /// Whether a word can be a name: its first byte is a letter or an underscore, and it isn't too long.
-fn is_name(word: &[u8]) -> bool
+pub fn is_name(word: &[u8]) -> bool
     ensures value { result ≡ words.is_name word.now }
 {
     match word {

@@ -1,7 +1,6 @@
 use Rattle.std.proofs.Common.{◌≡◌, ◌+◌, ◌^◌, ◌<◌, ◌≤◌, length}
-use Rattle.text_words.specs.Comments.{uncommented, depth_of}
+use Rattle.text_words.specs.Comments.{uncommented, behind, depth_of}
 use Rattle.text_words.specs.declared.comments.Place.TheVariants.{Text}
-use Rattle.text_words.proofs.Blanking.{behind}
 use Rattle.text_words.proofs.comments.blank_comments.Given as goal
 
 abbrev pub invariant-loop-rest : goal.invariant-loop-rest
