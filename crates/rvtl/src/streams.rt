@@ -18,6 +18,8 @@ impl<'c, W> Output<'c, W> {
 }
 
 impl<W: Write> Write for Output<'_, W> {
+    ghost contents = { λ o. W.contents o.to };
+
     fn write(&mut self, buf: &[u8]) -> io::Result<usize> {
         let written = self.to.write(buf);
         if let Err(error) = &written {
