@@ -118,6 +118,19 @@ def over_standard_output(rvtl, folder):
     tell("a journal and a trace that nobody wants", end.returncode == 0, end)
 
 
+def on_a_full_device(rvtl, folder, replay):
+    """What each command prints is lost on a full device, and that is told."""
+    commands = [replay[1:], ["explain", "--raw", IMAGE, SCRIPT], ["explain", "--vcd", "--raw", IMAGE, SCRIPT], ["chart", "--raw", IMAGE, SCRIPT],
+                ["page", "--raw", IMAGE, SCRIPT], ["check", f"{EXAMPLES}/legal.trace"], ["check", "--messages", f"{EXAMPLES}/two_trunks.trace"],
+                ["explore", "--raw", IMAGE], ["explore", "--raw", "--architecture", IMAGE], ["fences", "--raw", IMAGE],
+                ["run", "--raw", "--journal", os.path.join(folder, "full.script"), IMAGE], ["litmus", f"{EXAMPLES}/MP.litmus"], ["--help"]]
+    told = ["rvtl: cannot write", "note: no space is left"]
+    for words in commands:
+        with open("/dev/full", "wb") as full:
+            end = subprocess.run([rvtl, *words], stdout=full, stderr=subprocess.PIPE, timeout=60)
+        tell(f"a full device for {' '.join(words[:2])}", end.returncode == 1 and end.stderr.decode().splitlines() == told, end)
+
+
 def memory_ends(rvtl, folder):
     """Where memory ends, only how much there was is told, and nothing of the file."""
     trace = os.path.join(folder, "long.trace")
@@ -327,10 +340,7 @@ def main():
                  ["rvtl: -: line 1: text fault 1 Header", "note: no line ends in its first 65536 bytes"], stdin=zeros.stdout)
             zeros.stdout.close()
             zeros.wait()
-        with open("/dev/full", "wb") as full:
-            end = subprocess.run([*read_script, SCRIPT], stdout=full, stderr=subprocess.PIPE)
-        told = ["rvtl: cannot write", "note: no space is left"]
-        tell("a full device", end.returncode == 1 and end.stderr.decode().splitlines() == told, end)
+        on_a_full_device(rvtl, folder, [*read_script, SCRIPT])
         small = lambda: resource.setrlimit(resource.RLIMIT_STACK, (24 * 1024, 24 * 1024))
         ends("a stack of 24 KiB", [*read_script, SCRIPT], 0, ["hart 0: exit 5"], preexec_fn=small)
         reader_goes_away(rvtl, folder)
