@@ -1,7 +1,7 @@
 //! Why a thread of a run takes no more turns.
 
 ghost use Rattle.std.specs.Prelude.{◌≡◌};
-ghost use Rattle.host_threads.specs.Faults.{fault_in};
+ghost use Rattle.host_threads.specs.Faults.{fault_in, is_stopped};
 
 use crate::report::Fault;
 
@@ -28,6 +28,16 @@ impl Ending {
         match self {
             Ending::Failed(fault) => Some(fault),
             Ending::Halted | Ending::Tries | Ending::Changes | Ending::Stopped => None,
+        }
+    }
+
+    /// Whether the thread was stopped before it had ended.
+    pub(crate) fn is_stopped(self) -> bool
+        ensures { result ≡ is_stopped self }
+    {
+        match self {
+            Ending::Stopped => true,
+            Ending::Halted | Ending::Tries | Ending::Changes | Ending::Failed(_) => false,
         }
     }
 }

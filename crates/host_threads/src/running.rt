@@ -1,10 +1,10 @@
 //! A whole run.
 
-ghost use Rattle.std.specs.Prelude.{◌≡◌, ◌≢◌, ◌↔◌, ◌⊎◌, ◌≤◌, Err, IfErr, IfOk, None, length, map, sum, vec_len};
+ghost use Rattle.std.specs.Prelude.{◌≡◌, ◌≢◌, ◌↔◌, ◌⊎◌, ◌≤◌, Err, IfErr, IfOk, None, length, map, sum, vec_len, false};
 ghost use Rattle.std.specs.List.{All};
 ghost use Rattle.locked_fabric.specs.Machine.{IsReached};
 ghost use Rattle.host_threads.specs.Workers.{common_of};
-ghost use Rattle.host_threads.specs.Faults.{IsFirstFault, first_fault};
+ghost use Rattle.host_threads.specs.Faults.{IsFirstFault, first_fault, was_stopped};
 ghost use Rattle.host_threads.specs.Replays.{IsOf, IsRun, IsWithinLimit, JournalMoves, JournalReplays, end_of_journal};
 ghost use Rattle.machine_model.specs.LawfulLog.{IsLawfulLog};
 ghost use Rattle.machine_model.specs.Laws.{IsHeadline};
@@ -149,7 +149,7 @@ fn counted<
     Ok(shares)
 }
 
-// The seats and the shares in their order, or the first fault.
+// The seats and the shares in their order, or the first fault. A run that was stopped isn't told as one that ended.
 fn handed_back<L: Ledger>(
     alloc: Global,
     done: Vec<Done<L>>,
@@ -157,11 +157,13 @@ fn handed_back<L: Ledger>(
     ensures seats { IfOk result (λ back. back.0.items ≡ map (λ one. one.seat) done.items) }
     ensures shares { IfOk result (λ back. back.1.items ≡ map (λ one. one.share) done.items) }
     ensures sound { IfOk result (λ _. first_fault done.items ≡ None) }
+    ensures whole { IfOk result (λ _. was_stopped done.items ≡ false) }
     ensures fault { IfErr result (λ error. (error ≡ RunError.NoMemory) ⊎ IsFirstFault done.items error) }
     ensures config { result ≢ Err RunError.Config }
 {
     let mut seats = Vec::with_capacity(alloc, done.len())?;
     let mut shares = Vec::with_capacity(alloc, done.len())?;
+    let mut stopped = false;
     for one in done {
         let Done {
             seat,
@@ -171,8 +173,12 @@ fn handed_back<L: Ledger>(
         if let Some(fault) = ending.fault() {
             return Err(RunError::from(fault));
         }
+        stopped = stopped || ending.is_stopped();
         seats.push_reserved(seat);
         shares.push_reserved(share);
+    }
+    if stopped {
+        return Err(RunError::NoMemory);
     }
     Ok((seats, shares))
 }

@@ -13,3 +13,6 @@ returns-clause-shares g c = grind (arith, common_steps)
 
 pub returns-clause-sound : goal.returns-clause-sound
 returns-clause-sound g c = grind (arith, common_steps)
+
+pub returns-clause-whole : goal.returns-clause-whole
+returns-clause-whole g c = grind (arith, common_steps)

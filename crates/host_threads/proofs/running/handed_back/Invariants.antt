@@ -1,6 +1,6 @@
-use Rattle.std.proofs.Common.{◌≡◌, ◌+◌, ◌≤◌, ◌++◌, length, map, vec_len, vec_capacity}
+use Rattle.std.proofs.Common.{◌≡◌, ◌||◌, ◌+◌, ◌≤◌, ◌++◌, length, map, vec_len, vec_capacity}
 use Rattle.std.specs.Vec.Iter.{into_iter_items}
-use Rattle.host_threads.specs.Faults.{first_fault}
+use Rattle.host_threads.specs.Faults.{first_fault, was_stopped}
 use Rattle.host_threads.proofs.running.handed_back.Given as goal
 
 abbrev pub invariant-loop-one : goal.invariant-loop-one
@@ -12,6 +12,7 @@ invariant-loop-one g l = record {
   seats : l.seats.items ++ map (λ one. one.seat) (into_iter_items l.one-iterator) ≡ map (λ one. one.seat) l.fn.done.items;
   shares : l.shares.items ++ map (λ one. one.share) (into_iter_items l.one-iterator) ≡ map (λ one. one.share) l.fn.done.items;
   sound : first_fault (into_iter_items l.one-iterator) ≡ first_fault l.fn.done.items;
+  whole : (l.stopped || was_stopped (into_iter_items l.one-iterator)) ≡ was_stopped l.fn.done.items;
   room : vec_len l.fn.done ≤ vec_capacity l.shares;
   seat_room : vec_len l.fn.done ≤ vec_capacity l.seats;
 }
