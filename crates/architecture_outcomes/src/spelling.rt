@@ -6,8 +6,8 @@ ghost use Rattle.exploration_text.specs.Words.{end_text};
 
 use crate::architecture::Architecture;
 use crate::outcome::{Outcome, Way};
-use exploration_text::{WordName, end_text};
 use exploration_text::explorer::Realisation;
+use exploration_text::{WordName, end_text};
 use itoa::Buffer;
 use machine_types::MemoryModel;
 use state_search::{Ending, Extent};
