@@ -60,7 +60,7 @@ place_text place = codes " (hart " ++ (decimal place.hart ++ (codes " at " ++ (w
 -- how far the search under the model came
 abbrev pub reach_text : Reach → ℕ → List ℕ
 reach_text reach.Whole window = codes ""
-reach_text reach.Unjudged window = codes ", some outcomes left out, as runs of over 4096 operations aren't judged"
+reach_text reach.Unjudged window = codes ", some outcomes or failures left out, as runs of over 4096 operations aren't judged"
 reach_text reach.Unclosed window = codes ", a last pass over the states found more"
 reach_text (reach.WindowMet place) window = window_text window ++ place_text place
 reach_text (reach.ValuesMet place) window = codes ", values of a load over 256 left out" ++ place_text place

@@ -3,12 +3,15 @@
 use crate::outcome::Outcome;
 use machine_types::MemoryModel;
 use state_search::Extent;
-use window_search::Reach;
+use window_search::{FailedRun, Reach};
 
 /// What is found of a program under a memory model. What is known of it stands at `explore_architecture`.
 pub struct Architecture {
     /// By hart, status first, then the numbers that were put out; and those of the same results by their words.
     pub outcomes: Vec<Outcome>,
+    /// Harts that were found to stop in a run that the model allows, whatever the other harts do then, each once with its
+    /// code and where, and with such a run.
+    pub failures: Vec<FailedRun>,
     /// The model under which they are allowed.
     pub model: MemoryModel,
     /// How many operations of a hart might wait.
@@ -28,6 +31,7 @@ impl Drop for Architecture {
     fn drop(self) {
         let Architecture {
             outcomes: _,
+            failures: _,
             model: _,
             window: _,
             reach: _,

@@ -6,9 +6,10 @@ ghost use Rattle.std.specs.Ordering.{on};
 ghost use Rattle.architecture_outcomes.specs.Outcomes.{IsDecided, IsWitnessed, TellEach, TellOnce, end_of, ends_of, tells};
 ghost use Rattle.performed_words.specs.Words.{are_aligned};
 ghost use Rattle.window_search.specs.WindowModelComplete.{TellsEachAllowed};
+ghost use Rattle.window_search.specs.FailingRuns.{TellsEachFailing};
 ghost use Rattle.window_search.specs.Met.{HasMet};
-ghost use Rattle.window_search.specs.Openings.{NeverOpens};
 ghost use Rattle.window_search.specs.LeftOut.{keeps_limit};
+ghost use Rattle.window_search.specs.Stops.{AreOnce, IsFailedRun, failures_of};
 ghost use Rattle.window_search.specs.Told.{TellsSought, endings_of};
 ghost use Rattle.witnesses.specs.Witnesses.{IsWitness};
 ghost use Rattle.exploration_text.specs.Outcomes.{HasEachEnd};
@@ -40,7 +41,10 @@ pub(crate) fn search_model<W: Watch, S: Seek>(
     requires words { CanShowEach image.now addresses.now }
     ensures allowed { result.reach ≡ Reach.Whole → TellsEachAllowed image.now config addresses.now (endings_of addresses.now result.witnesses.items) }
     ensures witnessed { All (IsWitness image.now config) result.witnesses.items }
-    ensures opens { result.reach ≡ Reach.Whole → result.states ≡ 0 → NeverOpens image.now config }
+    ensures failing { result.reach ≡ Reach.Whole → TellsEachFailing image.now config (failures_of result.failures.items) }
+    ensures failed { All (IsFailedRun image.now config) result.failures.items }
+    ensures failed_once { AreOnce (failures_of result.failures.items) }
+    ensures opens { result.reach ≡ Reach.Whole → 0 < result.states }
     ensures bounded { keeps_limit result.reach ≡ true → result.states ≤ limit }
     ensures limited { result.reach ≡ Reach.LimitMet → limit < result.states }
     ensures met { HasMet image.now window result.reach }
@@ -62,9 +66,11 @@ fn nothing(alloc: Global, reach: Reach) -> Allowed
     ensures reach { result.reach ≡ reach }
     ensures states { result.states ≡ 0 }
     ensures witnesses { result.witnesses.items ≡ [] }
+    ensures failures { result.failures.items ≡ [] }
 {
     Allowed {
         witnesses: Vec::new(alloc),
+        failures: Vec::new(alloc),
         reach,
         states: 0,
     }

@@ -8,7 +8,8 @@ ghost use Rattle.witnesses.specs.Flat.{Flat};
 ghost use Rattle.window_search.specs.WindowModelComplete.{TellsEachAllowed};
 ghost use Rattle.window_search.specs.LeftOut.{keeps_limit};
 ghost use Rattle.window_search.specs.Met.{HasMet};
-ghost use Rattle.window_search.specs.Openings.{NeverOpens};
+ghost use Rattle.window_search.specs.FailingRuns.{TellsEachFailing};
+ghost use Rattle.window_search.specs.Stops.{AreOnce, IsFailedRun, failures_of};
 ghost use Rattle.exploration_text.specs.Ranks.{outcome_cmp};
 ghost use Rattle.performed_words.specs.Words.{CanShowEach};
 
@@ -84,9 +85,15 @@ pub fn explore_architecture<W: Watch, M: exploration_text::explorer::Seek, S: Se
     // Where the search under the model left nothing out, each outcome that the model allows is told.
     ensures allowed { IfOk result (λ a. a.reach ≡ Reach.Whole → TellsEachAllowed image.now config addresses.now (ends_of a.outcomes.items)) }
 
-    // The search under the model finds no state only where a hart never comes from reset to an access or its end, or says
-    // that it left out more.
-    ensures opens { IfOk result (λ a. a.reach ≡ Reach.Whole → a.states ≡ 0 → NeverOpens image.now config) }
+    // And each hart that stops in a run that it allows, whatever the others do then.
+    ensures failing { IfOk result (λ a. a.reach ≡ Reach.Whole → TellsEachFailing image.now config (failures_of a.failures.items)) }
+
+    // Each such hart that is told stops so in its run, as far as that went, and none is told twice.
+    ensures failed { IfOk result (λ a. All (IsFailedRun image.now config) a.failures.items) }
+    ensures failed_once { IfOk result (λ a. AreOnce (failures_of a.failures.items)) }
+
+    // The search under the model finds no state only where it says that it left out more.
+    ensures opens { IfOk result (λ a. a.reach ≡ Reach.Whole → 0 < a.states) }
     ensures bounded { IfOk result (λ a. keeps_limit a.reach ≡ true → a.states ≤ exploring.limit) }
     ensures limited { IfOk result (λ a. a.reach ≡ Reach.LimitMet → exploring.limit < a.states) }
 
@@ -116,6 +123,7 @@ pub fn explore_architecture<W: Watch, M: exploration_text::explorer::Seek, S: Se
     let limit = exploring.limit;
     let Allowed {
         witnesses,
+        failures,
         reach,
         states,
     } = search_model(
@@ -134,6 +142,7 @@ pub fn explore_architecture<W: Watch, M: exploration_text::explorer::Seek, S: Se
     outcomes.sort_unstable();
     Ok(Architecture {
         outcomes,
+        failures,
         model: config.model,
         window,
         reach,

@@ -146,7 +146,7 @@ fn spell_reach(into: &mut Vec<u8>, reach: Reach, window: u32) -> Result<(), Allo
         Reach::Whole => {}
         Reach::Unjudged => {
             into.extend_from_slice(
-                b", some outcomes left out, as runs of over 4096 operations aren't judged",
+                b", some outcomes or failures left out, as runs of over 4096 operations aren't judged",
             )?;
         }
         Reach::Unclosed => {

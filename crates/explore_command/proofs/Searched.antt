@@ -37,7 +37,8 @@ use Rattle.flat_model.specs.Flat.{Flat}
 use Rattle.architecture_outcomes.specs.Complete.{TellsEachAllowed}
 use Rattle.architecture_outcomes.specs.LeftOut.{keeps_limit}
 use Rattle.architecture_outcomes.specs.Met.{HasMet}
-use Rattle.architecture_outcomes.specs.Openings.{NeverOpens}
+use Rattle.architecture_outcomes.specs.FailingRuns.{TellsEachFailing}
+use Rattle.architecture_outcomes.specs.Stops.{AreOnce, IsFailedRun, failures_of}
 use Rattle.allowed_outcomes.specs.declared.allowing.Allowed.{Allowed as Lines}
 use Rattle.architecture_outcomes.specs.Outcomes.{HasSought}
 use Rattle.explore_command.specs.Sought.{EndsUnder, IsRefused, IsRefusedBy, IsSoughtBy}
@@ -89,11 +90,11 @@ module _ (held : Contents) (wanted : Explore) (words : List Name) (window : ℕ)
 -- what is said of it, fact by fact
 pub found_under : (image : Initial) (config : Config) (addresses : List ℕ) (window limit : ℕ) (r : Result Architecture AllocError) → IfOk r (λ a. All (IsWitnessed image config addresses) a.outcomes.items)
     → IfOk r (λ a. a.machine ≡ extent.Complete → TellsEachEnd image config addresses a.outcomes.items) → IfOk r (λ a. a.machine ≡ extent.Complete → All (λ o. IsDecided o.way) a.outcomes.items)
-    → IfOk r (λ a. a.reach ≡ reach.Whole → TellsEachAllowed image config addresses (ends_of a.outcomes.items)) → IfOk r (λ a. a.reach ≡ reach.Whole → a.states ≡ 0 → NeverOpens image config) → IfOk r (λ a. keeps_limit a.reach ≡ true → a.states ≤ limit) → IfOk r (λ a. a.reach ≡ reach.LimitMet → limit < a.states) → IfOk r (λ a. HasMet image a.window a.reach) → IfOk r (λ a. IsStrictlySortedBy (on end_of outcome_cmp) a.outcomes.items)
+    → IfOk r (λ a. a.reach ≡ reach.Whole → TellsEachAllowed image config addresses (ends_of a.outcomes.items)) → IfOk r (λ a. a.reach ≡ reach.Whole → TellsEachFailing image config (failures_of a.failures.items)) → IfOk r (λ a. All (IsFailedRun image config) a.failures.items) → IfOk r (λ a. AreOnce (failures_of a.failures.items)) → IfOk r (λ a. a.reach ≡ reach.Whole → 0 < a.states) → IfOk r (λ a. keeps_limit a.reach ≡ true → a.states ≤ limit) → IfOk r (λ a. a.reach ≡ reach.LimitMet → limit < a.states) → IfOk r (λ a. HasMet image a.window a.reach) → IfOk r (λ a. IsStrictlySortedBy (on end_of outcome_cmp) a.outcomes.items)
     → IfOk r (λ a. a.machine_states ≤ limit) → IfOk r (λ a. a.machine ≡ extent.LimitMet → a.machine_states ≡ limit) → IfOk r (λ a. a.model ≡ config.model)
     → IfOk r (λ a. (states : List Flat) × AreMachineStates image config addresses a.machine a.machine_states (TellsEnd a.outcomes.items) states) → IfOk r (λ a. a.window ≡ min window 64) → IfOk r (IsFoundUnder image config addresses window limit)
-found_under image config addresses window limit (Ok a) shown machine alone allowed opens bounded limited met order within full model visited width = record { shown = shown; machine = machine; alone = alone; allowed = allowed; opens = opens; bounded = bounded; limited = limited; met = met; order = order; within = within; full = full; model = model; visited = visited; window_is = width }
-found_under image config addresses window limit (Err error) shown machine alone allowed opens bounded limited met order within full model visited width = tt
+found_under image config addresses window limit (Ok a) shown machine alone allowed failing failed failed_once opens bounded limited met order within full model visited width = record { shown = shown; machine = machine; alone = alone; allowed = allowed; failing = failing; failed = failed; failed_once = failed_once; opens = opens; bounded = bounded; limited = limited; met = met; order = order; within = within; full = full; model = model; visited = visited; window_is = width }
+found_under image config addresses window limit (Err error) shown machine alone allowed failing failed failed_once opens bounded limited met order within full model visited width = tt
 
 -- what ended it
 pub ends_under : (is_asked asked : Bool) (names called : List WordName) (text : Option (List ℕ)) (allowed : Option Lines) → asked ≡ is_asked → called ≡ names → ((line : List ℕ) → IsRefusedBy allowed line → IsRefused text line)

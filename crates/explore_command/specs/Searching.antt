@@ -29,8 +29,9 @@ use Rattle.state_search.specs.declared.findings.Extent.{Extent}
 use Rattle.state_search.specs.declared.findings.Extent.TheVariants.{Complete, LimitMet}
 use Rattle.state_search.specs.declared.findings.Extent.TheVariants as extent
 use Rattle.architecture_outcomes.specs.Complete.{TellsEachAllowed}
+use Rattle.architecture_outcomes.specs.FailingRuns.{TellsEachFailing}
 use Rattle.architecture_outcomes.specs.Met.{HasMet}
-use Rattle.architecture_outcomes.specs.Openings.{NeverOpens}
+use Rattle.architecture_outcomes.specs.Stops.{AreOnce, IsFailedRun, failures_of}
 use Rattle.architecture_outcomes.specs.LeftOut.{keeps_limit}
 use Rattle.architecture_outcomes.specs.Reach.{Reach}
 use Rattle.architecture_outcomes.specs.TheVariants as reach
@@ -38,14 +39,17 @@ use Rattle.state_search.specs.declared.until.Ending.TheVariants.{First, Time}
 use Rattle.explorer.specs.Ranks.{outcome_cmp}
 
 -- what is said to show an outcome does; where the machine's own search is complete, each of its outcomes is told as one of the machine, and each other as the model's alone;
--- where the search under the model left nothing out, each outcome that the model allows is told; that search finds no state only where a hart never comes from reset to an access or its end, or says that it left out more; the machine's search finds no more states than the limit, and says where it met it; the model's finds no more, unless it says that it met the limit, and then it did, or was ended, or that memory ended; each other bound that it says it met was met, and there;
+-- where the search under the model left nothing out, each outcome that the model allows is told, and each hart that stops in a run that it allows; each such hart that is told does, and none is told twice; that search finds no state only where it says that it left out more; the machine's search finds no more states than the limit, and says where it met it; the model's finds no more, unless it says that it met the limit, and then it did, or was ended, or that memory ended; each other bound that it says it met was met, and there;
 -- the outcomes stand in their order, each once; unless memory ended the machine's search, each end among its states is told as the machine's; the window told is the one asked for, 64 where that is more
 pub record IsFoundUnder (image : Initial) (config : Config) (addresses : List ℕ) (window limit : ℕ) (found : Architecture) : Type 0 where
   pub shown : All (IsWitnessed image config addresses) found.outcomes.items
   pub machine : found.machine ≡ Complete → TellsEachEnd image config addresses found.outcomes.items
   pub alone : found.machine ≡ Complete → All (λ o. IsDecided o.way) found.outcomes.items
   pub allowed : found.reach ≡ reach.Whole → TellsEachAllowed image config addresses (ends_of found.outcomes.items)
-  pub opens : found.reach ≡ reach.Whole → found.states ≡ 0 → NeverOpens image config
+  pub failing : found.reach ≡ reach.Whole → TellsEachFailing image config (failures_of found.failures.items)
+  pub failed : All (IsFailedRun image config) found.failures.items
+  pub failed_once : AreOnce (failures_of found.failures.items)
+  pub opens : found.reach ≡ reach.Whole → 0 < found.states
   pub bounded : keeps_limit found.reach ≡ true → found.states ≤ limit
   pub limited : found.reach ≡ reach.LimitMet → limit < found.states
   pub met : HasMet image found.window found.reach
