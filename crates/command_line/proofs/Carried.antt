@@ -15,7 +15,7 @@ use Rattle.command_settings.specs.declared.wanted.Show.{Show as Shown}
 use Rattle.command_settings.specs.declared.wanted.Settings.TheVariants.{Check, Explore, Fences, Show}
 use Rattle.command_line.specs.Telling.{AreJudged, AreWordsJudged, ComesBeforeFiles, IsFaultOfCommand, IsNotedAt, IsShowingFault}
 use Rattle.fences_command.specs.Fencing.{IsAuditTold, IsFencesFault}
-use Rattle.fences_command.specs.Keeping.{IsProgramFile}
+use Rattle.fences_command.specs.Witnesses.{IsFencesFile}
 use Rattle.explore_command.specs.Exploring.{ComesBeforeScripts, IsExploreFault, LeavesPart}
 use Rattle.explore_command.specs.Keeping.{SparesOthers}
 use Rattle.command_files.specs.declared.allowing.Judgement.{Judgement}
@@ -104,7 +104,7 @@ pub check_beyond : (old new : Option (List ℕ)) (wanted : Settings) (r : Result
 check_beyond old new wanted (Ok judgement) never = tt
 check_beyond old new wanted (Err fault) never = λ two. absurd (never two)
 
-pub fences_written : (held left : Contents) (wanted : Settings) (audit : Audit) → wanted ≡ Fences audit → SparesOthers (IsProgramFile audit.fences.write) held left → (name : Text) → left name ≢ held name → IsWritten name wanted
+pub fences_written : (held left : Contents) (wanted : Settings) (audit : Audit) → wanted ≡ Fences audit → SparesOthers (IsFencesFile audit.fences) held left → (name : Text) → left name ≢ held name → IsWritten name wanted
 fences_written held left wanted audit is spares = λ name changed. subst (IsWritten name) (sym is) (written held left _ spares name changed)
 
 pub fences_beyond : (held : Contents) (old new : Option (List ℕ)) (wanted : Settings) (audit : Audit) (Has : (List ℕ → Type 0) → Type 0) (r : Result Judgement Fault) → wanted ≡ Fences audit → IfErr r (IsFencesFault held audit)

@@ -7,7 +7,7 @@ use Rattle.trace_commands.specs.Pages.{IsHalfPaged, IsPaged}
 use Rattle.script_commands.specs.Waving.{AreTold, AreWavesCutOff}
 use Rattle.trace_commands.specs.Kinds.{IsHalfTold, IsTold}
 use Rattle.fences_command.specs.Fencing.{AuditHas, IsAuditTold}
-use Rattle.fences_command.specs.Keeping.{IsProgramFile}
+use Rattle.fences_command.specs.Witnesses.{IsFencesFile}
 use Rattle.explore_command.specs.Exploring.{ExplorationHas, ExplorationRefusals, IsExplorationTold}
 use Rattle.explore_command.specs.Judging.{IsToldBy}
 use Rattle.explore_command.specs.Keeping.{IsScriptFile}
@@ -242,12 +242,12 @@ MeetsSomeState (Show show) = 0 < show.explore.states
 MeetsSomeState (Fences audit) = 0 < audit.fences.states
 MeetsSomeState _ = Unit {0}
 
--- the file is the journal of a run, and not its program, or shows an outcome of an exploration, or how it gets stuck, or has the program with the orderings that are enough
+-- the file is the journal of a run, and not its program, or shows an outcome of an exploration, or how it gets stuck, or has the program with the orderings that are enough, or shows what is lost without one that is needed
 abbrev pub IsWritten : Text → Settings → Type 0
 IsWritten name (Run run) = (name ≡ run.journal.now) × (name ≢ run.image.now)
 IsWritten name (Explore explore) = IsExploreFile explore.architecture explore name
 IsWritten name (Show show) = IsExploreFile show.explore.architecture show.explore name
-IsWritten name (Fences audit) = IsProgramFile audit.fences.write name
+IsWritten name (Fences audit) = IsFencesFile audit.fences name
 IsWritten name _ = ⊥
 
 -- no file but the journal, the scripts and traces, or the program with other orderings, of what the words name is another than before

@@ -131,6 +131,7 @@ pub record IsFencesMeant (rows : List Row) (fences : Fences) : Type 0 where
   pub window : IsNumberIn (codes "window") least_window most_window rows fences.window
   pub allow : IsOptional (codes "allow") rows fences.allow
   pub subject : IsFlag (codes "machine") rows (is_machine fences.subject)
+  pub scripts : IsOptional (codes "scripts") rows fences.scripts
   pub write : IsOptional (codes "write") rows fences.write
   pub image : IsText (codes "IMAGE") rows fences.image.now
 

@@ -157,7 +157,7 @@ abbrev pub explore_arguments : List Argument
 explore_arguments =
     flag (codes "raw") ∷ machine_arguments ++ search_arguments ++ sample_arguments ++ window_arguments ++ repeated (codes "show") ∷ file (codes "IMAGE") ∷ []
 
--- `[--raw]`, those of a machine, and `[--states LIMIT] [--window N] [--allow FILE] [--machine] [--write FILE] [--show ADDRESS|SYMBOL].. IMAGE`
+-- `[--raw]`, those of a machine, and `[--states LIMIT] [--window N] [--allow FILE] [--machine] [--scripts FOLDER] [--write FILE] [--show ADDRESS|SYMBOL].. IMAGE`
 abbrev pub fences_arguments : List Argument
 fences_arguments =
     flag (codes "raw")
@@ -166,6 +166,7 @@ fences_arguments =
     ∷ number (codes "window") (codes "16") least_window most_window
     ∷ optional (codes "allow")
     ∷ flag (codes "machine")
+    ∷ optional (codes "scripts")
     ∷ optional (codes "write")
     ∷ repeated (codes "show")
     ∷ file (codes "IMAGE")

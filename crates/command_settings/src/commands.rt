@@ -7,6 +7,7 @@ ghost use Rattle.command_settings.specs.Usage.{AreModelNames, ModelNames, IsUsag
 use crate::help::{
     ALLOW_HELP, CHART_HELP, CHECK_HELP, EXPLAIN_HELP, EXPLORE_HELP, FAIL_ON_HELP, FENCES_HELP,
     LINE_HELP, PAGE_HELP, PROGRAM_HELP, REPLAY_HELP, RUN_HELP, SCRIPTS_HELP, SHOW_HELP,
+    WITNESSES_HELP,
 };
 use clap::builder::ValueParser;
 use clap::{Arg, ArgAction, Command};
@@ -154,6 +155,7 @@ fn fences_command<'a>(alloc: Global, models: &'a [&'a str]) -> Result<Command<'a
     let command = add_arg(command, window(alloc));
     let command = add_arg(command, allow(alloc));
     let command = add_arg(command, machine_outcomes(alloc));
+    let command = add_arg(command, witnesses(alloc));
     let command = add_arg(command, written(alloc));
     let command = add_arg(command, show(alloc));
     add_arg(command, image(alloc))
@@ -444,6 +446,13 @@ fn machine_outcomes<'a>(alloc: Global) -> Arg<'a>
         "machine",
         "ask for the outcomes that this machine shows, in place of those that the memory model allows",
     )
+}
+
+fn witnesses<'a>(alloc: Global) -> Arg<'a>
+    ensures rule { rule_of result ≡ optional_rule (codes "scripts") }
+    ensures local { result.global ≡ false }
+{
+    optional(alloc, "scripts", "FOLDER", WITNESSES_HELP)
 }
 
 fn written<'a>(alloc: Global) -> Arg<'a>

@@ -271,6 +271,7 @@ fn fences_of<'a>(matches: &ArgMatches<'a>) -> Option<Fences<'a>>
         window: number_of(matches, "window")?,
         allow: matches.get_str("allow"),
         subject: subject_of(matches),
+        scripts: matches.get_str("scripts"),
         write: matches.get_str("write"),
         image: matches.get_str("IMAGE")?,
     })

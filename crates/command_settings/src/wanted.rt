@@ -239,6 +239,8 @@ pub struct Fences<'a> {
     pub allow: Option<&'a str>,
     /// Whose outcomes are compared.
     pub subject: Subject,
+    /// The folder into which go runs that show what is lost without an ordering that is needed.
+    pub scripts: Option<&'a str>,
     /// The file into which the program goes with the orderings that are enough.
     pub write: Option<&'a str>,
     pub image: &'a str,

@@ -1,1 +1,5 @@
+mod Changed
+mod Readable
+mod Shown
 mod Told
+mod Witnessed

@@ -1,19 +1,23 @@
 //! `rvtl fences`: which of a program's orderings it needs, or which it lacks, is sought and told.
 
-ghost use Rattle.std.specs.Prelude.{◌≡◌, ◌≢◌, ◌⊎◌, ◌<◌, Err, IfErr, IfOk, List, None, OnErr, OnOk, Some, option_map};
+ghost use Rattle.std.specs.Prelude.{◌≡◌, ◌≢◌, ◌⊎◌, ◌<◌, Err, IfErr, IfOk, IfSome, List, None, OnErr, OnOk, Some, option_map};
 ghost use Rattle.std.specs.Io.KnownBytes.{Appends};
-ghost use Rattle.command_files.specs.Sizes.{IsOutside};
+ghost use Rattle.command_files.specs.Contents.{HoldsBytes};
+ghost use Rattle.command_files.specs.Sizes.{IsInside, IsOutside, config_named};
+ghost use Rattle.elf_loader.specs.Size.{IsMemoryKib};
 ghost use Rattle.fence_audit.specs.Searches.{IsReady};
 ghost use Rattle.fence_audit.specs.Words.{CanShowEach};
-ghost use Rattle.fences_command.specs.Fencing.{AuditHas, IsAuditTold, IsFencesFault, IsOfFile, IsSought, judgement_of, told_text, world_of};
-ghost use Rattle.fences_command.specs.Keeping.{IsProgramFile, IsTarget};
+ghost use Rattle.fences_command.specs.Fencing.{AuditHas, IsAuditTold, IsFencesFault, IsKeepingFault, IsOfFile, IsSought, judgement_of, told_text, world_of};
+ghost use Rattle.fences_command.specs.Keeping.{IsProgramKept, IsUnread};
+ghost use Rattle.fences_command.specs.Witnesses.{AllSpare, AreReadable, AreShownFor, IsFencesFile};
 ghost use Rattle.search_files.specs.Faults.{ComesBeforeScripts, LeavesPart};
-ghost use Rattle.search_files.specs.Folders.{SparesOthers};
+ghost use Rattle.search_files.specs.Folders.{HasName, SparesOthers};
 ghost use Rattle.search_files.specs.Targets.{names_of};
 ghost use Rattle.search_files.specs.WordName.{WordName};
 ghost use Rattle.text_fields.specs.Writing.{Begins};
 
-use crate::keeping::{Target, keep_program, target_of};
+use crate::keeping::{check_target, keep_program};
+use crate::witnesses::{check_folder, keep_witnesses};
 use command_files::{Fault, Files, Judgement, allow_file, named_config, out_of_limits};
 use command_settings::{Audit, Fences, Subject};
 use elf_loader::Image;
@@ -25,7 +29,7 @@ use fence_audit::{
 use machine_types::Config;
 use progress_line::{Progress, Stage};
 use search_files::exploration_text::WordName;
-use search_files::script_commands::named_image_in;
+use search_files::script_commands::image_file_in;
 use search_files::{Targets, targets_of};
 use state_search::Watch;
 use std::alloc::{AllocError, Global};
@@ -45,8 +49,9 @@ impl<P: Progress> Watch for Telling<'_, P> {
 }
 
 /// Judges the machine's size, reads what is allowed, if a file is named for it, then the image, looks for the words of
-/// memory that are to be shown, and whether the file can be made that the program is to be written into, finds out which
-/// of its orderings it needs, or which it lacks, prints that on `out`, and writes the program with those that are enough. While it searches, `progress` is told how far it is.
+/// memory that are to be shown, and whether the file can be made that the program is to be written into, and the folder
+/// may have runs, finds out which of its orderings it needs, or which it lacks, prints that on `out`, writes the program
+/// with those that are enough, and runs that show why others are needed. While it searches, `progress` is told how far it is.
 pub fn fences_files<'a, F: Files, O: Write, P: Progress>(
     alloc: Global,
     files: &mut F,
@@ -59,19 +64,13 @@ pub fn fences_files<'a, F: Files, O: Write, P: Progress>(
     ensures unfinished { IfErr result (λ fault. LeavesPart fault (O.contents out.old) (O.contents out.new) (AuditHas (F.held files.old) wanted.now)) }
     ensures outside { IsOutside wanted.now.fences.machine → result ≡ Err Fault.Configuration }
     ensures told { IfErr result (IsFencesFault (F.held files.old) wanted.now) }
-    ensures spared { SparesOthers (IsProgramFile wanted.now.fences.write) (F.held files.old) (F.held files.new) }
+    ensures spared { SparesOthers (IsFencesFile wanted.now.fences) (F.held files.old) (F.held files.new) }
     ensures untouched { IfErr result (λ fault. ComesBeforeScripts fault → F.held files.new ≡ F.held files.old) }
 {
     let told = audit_in(alloc, files, wanted, progress)?;
     print(alloc, &told, out)?;
-    let NamedAudit {
-        allowance,
-        image,
-        target,
-        ..
-    } = told;
-    keep_program(alloc, files, wanted.fences, &target, &image, &allowance)?;
-    Ok(judgement_of(&allowance))
+    keep(alloc, files, wanted.fences, &told)?;
+    Ok(judgement_of(&told.allowance))
 }
 
 /// It is allowed unless an outcome of the program as it is isn't.
@@ -84,15 +83,16 @@ fn judgement_of(allowance: &Allowance) -> Judgement
     }
 }
 
-/// What an image needs or lacks, what lines call the words of memory, the symbols of its file, and where it is to be
-/// written.
+/// What an image needs or lacks, what lines call the words of memory, the symbols of its file, and the bytes there; and the
+/// machine that is meant.
 #[derive(Drop)]
 struct NamedAudit<'a> {
     allowance: Allowance,
     names: Vec<WordName<'a>>,
     symbols: Symbols,
     image: Image,
-    target: Option<Target<'a>>,
+    file: Vec<u8>,
+    config: Config,
 }
 
 /// What the image in the file needs or lacks.
@@ -104,7 +104,13 @@ fn audit_in<'a, F: Files, P: Progress>(
 ) -> Result<NamedAudit<'a>, Fault<'a>>
     requires room { 0 < wanted.now.fences.states }
     ensures of_file { IfOk result (λ told. IsOfFile (F.held files.old) wanted.now told.symbols told.allowance told.image) }
-    ensures target { IfOk result (λ told. IsTarget (F.held files.old) wanted.now.fences told.target) }
+    ensures bytes { IfOk result (λ told. HoldsBytes (F.held files.old) wanted.now.fences.image.now told.file.items) }
+    ensures unread { OnOk result (IfSome wanted.now.fences.write (λ name. IsUnread wanted.now.fences name.now)) }
+    ensures named { OnOk result (HasName wanted.now.fences.scripts) }
+    ensures spare { IfOk result (λ told. IfSome wanted.now.fences.scripts (λ folder. AllSpare wanted.now.fences told.image folder.now)) }
+    ensures readable { IfOk result (λ told. AreReadable told.allowance) }
+    ensures config { IfOk result (λ told. (inside : IsInside wanted.now.fences.machine) × (told.config ≡ config_named wanted.now.fences.machine inside)) }
+    ensures memory { OnOk result (IsMemoryKib wanted.now.fences.machine.memory) }
     ensures names { IfOk result (λ told. told.names.items ≡ names_of wanted.now.words.items) }
     ensures outside { IsOutside wanted.now.fences.machine → result ≡ Err Fault.Configuration }
     ensures told { IfErr result (IsFencesFault (F.held files.old) wanted.now) }
@@ -117,20 +123,51 @@ fn audit_in<'a, F: Files, P: Progress>(
     };
     let memory = fences.machine.memory;
     let allowed = allow_file(alloc, files, fences.allow)?;
-    let named = named_image_in(alloc, files, fences.raw, fences.image, memory)?;
+    let file = image_file_in(alloc, files, fences.raw, fences.image, memory)?;
+    let named = &file.named;
     let targets = targets_of(alloc, &named.image, &named.names, &wanted.words)?;
-    let target = target_of(alloc, files, fences)?;
-    let image = &named.image;
-    let Ok(allowance) = audit_of(alloc, image, config, fences, &targets, &allowed, progress) else {
+    check_target(alloc, files, fences)?;
+    check_folder(alloc, files, fences, config, &named.image)?;
+    let Ok(allowance) = audit_of(alloc, &named.image, config, fences, &targets, &allowed, progress)
+    else {
         return Err(Fault::OutOfMemory);
     };
+    // Called for its clause that the bytes are an image's.
+    let _entry = named.image.entry();
     Ok(NamedAudit {
         allowance,
         names: targets.names,
-        symbols: named.names,
-        image: named.image,
-        target,
+        symbols: file.named.names,
+        image: file.named.image,
+        file: file.bytes,
+        config,
     })
+}
+
+/// Writes the program with the orderings that are enough, and the runs that show why others are needed, where files are
+/// named for them.
+fn keep<'a, F: Files>(
+    alloc: Global,
+    files: &mut F,
+    wanted: Fences<'a>,
+    told: &NamedAudit<'_>,
+) -> Result<(), Fault<'a>>
+    requires memory { IsMemoryKib wanted.machine.memory }
+    requires readable { AreReadable told.now.allowance }
+    ensures program { OnOk result (IsProgramKept (F.held files.old) (F.held files.new) wanted.entry told.now.image told.now.file.items told.now.allowance wanted.entry.write) }
+    ensures shown { OnOk result (AreShownFor (F.held files.new) wanted.entry told.now.config told.now.image told.now.file.items told.now.allowance wanted.entry.scripts) }
+    ensures told { IfErr result (IsKeepingFault wanted.entry) }
+    ensures spared { SparesOthers (IsFencesFile wanted.entry) (F.held files.old) (F.held files.new) }
+{
+    let NamedAudit {
+        allowance,
+        image,
+        file,
+        config,
+        ..
+    } = told;
+    keep_program(alloc, files, wanted, image, file, allowance)?;
+    keep_witnesses(alloc, files, wanted, *config, image, file, allowance)
 }
 
 fn world_of(subject: Subject) -> World
@@ -164,13 +201,8 @@ fn audit_of<P: Progress>(
         limit: wanted.states,
         world: world_of(wanted.subject),
     };
-    let found = sought(
-        alloc,
-        question,
-        &targets.names,
-        allowed,
-        &Telling { progress },
-    );
+    let telling = Telling { progress };
+    let found = sought(alloc, question, &targets.names, allowed, &telling);
     progress.end();
     found
 }

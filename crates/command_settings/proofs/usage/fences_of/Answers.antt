@@ -19,7 +19,8 @@ returns-clause-meant c = λ whole.
       window = c.in_ok-number_of-2.ensures.meant least_window most_window whole.1.1.1.1.1.1.1.1.0;
       allow = sym (c.get_str.ensures ∙ first_value-rows f (codes "allow"));
       subject = c.subject_of.ensures whole.1.1.1.1.1.1.1.1.1.1.0.0 whole.1.1.1.1.1.1.1.1.1.1.0.1;
-      write = sym (c.get_str-2.ensures ∙ first_value-rows f (codes "write"));
+      scripts = sym (c.get_str-2.ensures ∙ first_value-rows f (codes "scripts"));
+      write = sym (c.get_str-3.ensures ∙ first_value-rows f (codes "write"));
       image = sym (c.in_ok-get_str.ensures ∙ first_value-rows f (codes "IMAGE"));
     }
 
@@ -33,4 +34,4 @@ pub returns-in_err-number_of-2-clause-missing : goal.returns-in_err-number_of-2-
 returns-in_err-number_of-2-clause-missing c = λ none whole. c.in_err-number_of-2.ensures.missing refl least_window most_window small_window whole.1.1.1.1.1.1.1.1.0
 
 pub returns-in_err-get_str-clause-missing : goal.returns-in_err-get_str-clause-missing
-returns-in_err-get_str-clause-missing c = λ none whole. none_some _ _ (c.in_err-get_str.ensures ∙ first_value-rows (found_of c.args.matches.now) (codes "IMAGE")) whole.1.1.1.1.1.1.1.1.1.1.1.1.1.0.1
+returns-in_err-get_str-clause-missing c = λ none whole. none_some _ _ (c.in_err-get_str.ensures ∙ first_value-rows (found_of c.args.matches.now) (codes "IMAGE")) whole.1.1.1.1.1.1.1.1.1.1.1.1.1.1.0.1
