@@ -81,7 +81,7 @@ pub(crate) fn carry_out<
         }
         Settings::Explore(explore) => explored(alloc, files, explore, out, err, progress),
         Settings::Show(show) => shown(alloc, files, &show, out, err, progress),
-        Settings::Fences(audit) => fences_files(alloc, files, &audit, out, progress),
+        Settings::Fences(audit) => fences_files(rt, alloc, files, &audit, out, progress),
         Settings::Check(check) => checked(alloc, files, check, out, err),
     }
 }

@@ -1,12 +1,12 @@
 -- What the program's words ask for, as the kit reads the words for the program's usage.
-use Rattle.std.specs.Prelude.{ℕ, ◌≡◌, ◌≢◌, ◌==◌, ◌<◌, ◌≤◌, ◌∷◌, ◌&&◌, ◌||◌, ◌⊎◌, [], Bool, true, false, IsSomeAnd, List, None, Option, Some, codes, if◌then◌else◌, is_some, map, not, option_map, unwrap_or}
+use Rattle.std.specs.Prelude.{ℕ, ◌≡◌, ◌≢◌, ◌==◌, ◌<◌, ◌≤◌, ◌∷◌, ◌&&◌, ◌||◌, ◌⊎◌, [], Bool, true, false, IsSome, IsSomeAnd, List, None, Option, Some, codes, if◌then◌else◌, is_some, map, not, option_map, unwrap_or}
 use Rattle.std.specs.Borrow.{Bor}
 use Rattle.std.specs.List.{list_all, list_any, slice_split}
 use Rattle.std.specs.Str.{bytes_eq}
 use Rattle.std.specs.Str.Parse.{IsNumeral, digits_value, without_leading_plus}
 use Rattle.clap.specs.Values.{IsUnsignedIn}
 use Rattle.clap.specs.Words.{App, Row, Text, all_of, first_of, one_of, subcommand_of}
-use Rattle.command_settings.specs.Usage.{Argument, IsUsage, Subcommand, least_limit, least_window, most_limit, most_size, most_window, subcommands}
+use Rattle.command_settings.specs.Usage.{Argument, IsUsage, Subcommand, least_limit, least_window, most_limit, most_size, most_threads, most_window, subcommands}
 use Rattle.command_settings.specs.declared.wanted.Audit.{Audit}
 use Rattle.command_settings.specs.declared.wanted.Breaches.{Breaches}
 use Rattle.command_settings.specs.declared.wanted.Breaches.TheVariants.{All, First}
@@ -112,6 +112,7 @@ pub record IsExploreMeant (rows : List Row) (explore : Explore) : Type 0 where
   pub allow : IsOptional (codes "allow") rows explore.allow
   pub fail_on : IsOptional (codes "fail-on") rows explore.fail_on
   pub first : IsFlag (codes "first") rows explore.first
+  pub until : IsOptional (codes "until") rows explore.until
   pub sample : IsNumberIn (codes "sample") 0 most_limit rows explore.sample
   pub seed : IsNumberIn (codes "seed") 0 most_size rows explore.seed
   pub architecture : IsFlag (codes "architecture") rows explore.architecture
@@ -129,8 +130,10 @@ pub record IsFencesMeant (rows : List Row) (fences : Fences) : Type 0 where
   pub machine : IsMachineMeant rows fences.machine
   pub states : IsNumberIn (codes "states") least_limit most_limit rows fences.states
   pub window : IsNumberIn (codes "window") least_window most_window rows fences.window
+  pub threads : IsNumberIn (codes "threads") 0 most_threads rows fences.threads
   pub allow : IsOptional (codes "allow") rows fences.allow
   pub subject : IsFlag (codes "machine") rows (is_machine fences.subject)
+  pub scripts : IsOptional (codes "scripts") rows fences.scripts
   pub write : IsOptional (codes "write") rows fences.write
   pub image : IsText (codes "IMAGE") rows fences.image.now
 
@@ -227,6 +230,10 @@ IsTwofold explore = (explore.architecture ≡ true) × (0 < explore.sample)
 abbrev pub IsUnsearched : Explore → Type 0
 IsUnsearched explore = (explore.first ≡ true) × (0 < explore.sample)
 
+-- a search is to end at a message, and it is the memory model's, in which none are sent, or is to end at the first of what it finds
+abbrev pub HasTwoEnds : Explore → Type 0
+HasTwoEnds explore = IsSome explore.until × ((explore.architecture ≡ true) ⊎ (explore.first ≡ true))
+
 -- the search is to fail on states from which no schedule ends, which random runs and a search of the memory model don't look for
 abbrev pub IsBlind : Explore → Type 0
 IsBlind explore = (lists (codes "stuck") explore.fail_on ≡ true) × ((explore.architecture ≡ true) ⊎ (0 < explore.sample))
@@ -236,7 +243,7 @@ abbrev pub IsUnknown : Explore → Type 0
 IsUnknown explore = IsSomeAnd explore.fail_on (λ list. are_conditions list.now ≡ false)
 
 abbrev pub HasConflict : Explore → Type 0
-HasConflict explore = IsTwofold explore ⊎ (IsUnsearched explore ⊎ (IsUnknown explore ⊎ IsBlind explore))
+HasConflict explore = IsTwofold explore ⊎ (IsUnsearched explore ⊎ (HasTwoEnds explore ⊎ (IsUnknown explore ⊎ IsBlind explore)))
 
 -- whose rules messages are judged by: this machine's, or TileLink's
 abbrev pub is_profile : Text → Bool

@@ -126,7 +126,7 @@ run_arguments =
     ∷ file (codes "IMAGE")
     ∷ []
 
--- `[--states LIMIT] [--scripts FOLDER] [--whole] [--allow FILE] [--fail-on LIST] [--first]`
+-- `[--states LIMIT] [--scripts FOLDER] [--whole] [--allow FILE] [--fail-on LIST] [--first] [--until MESSAGE]`
 abbrev pub search_arguments : List Argument
 search_arguments =
     number (codes "states") (codes "4000000") least_limit most_limit
@@ -135,6 +135,7 @@ search_arguments =
     ∷ optional (codes "allow")
     ∷ optional (codes "fail-on")
     ∷ flag (codes "first")
+    ∷ optional (codes "until")
     ∷ []
 
 -- `[--sample RUNS] [--seed S]`
@@ -148,6 +149,10 @@ least_window = 1
 abbrev pub most_window : ℕ
 most_window = 64
 
+-- the greatest number of `--threads`
+abbrev pub most_threads : ℕ
+most_threads = 64
+
 -- `[--architecture] [--window N]`
 abbrev pub window_arguments : List Argument
 window_arguments = flag (codes "architecture") ∷ number (codes "window") (codes "16") least_window most_window ∷ []
@@ -157,15 +162,17 @@ abbrev pub explore_arguments : List Argument
 explore_arguments =
     flag (codes "raw") ∷ machine_arguments ++ search_arguments ++ sample_arguments ++ window_arguments ++ repeated (codes "show") ∷ file (codes "IMAGE") ∷ []
 
--- `[--raw]`, those of a machine, and `[--states LIMIT] [--window N] [--allow FILE] [--machine] [--write FILE] [--show ADDRESS|SYMBOL].. IMAGE`
+-- `[--raw]`, those of a machine, and `[--states LIMIT] [--window N] [--threads N] [--allow FILE] [--machine] [--scripts FOLDER] [--write FILE] [--show ADDRESS|SYMBOL].. IMAGE`
 abbrev pub fences_arguments : List Argument
 fences_arguments =
     flag (codes "raw")
     ∷ machine_arguments
     ++ number (codes "states") (codes "4000000") least_limit most_limit
     ∷ number (codes "window") (codes "16") least_window most_window
+    ∷ number (codes "threads") (codes "0") 0 most_threads
     ∷ optional (codes "allow")
     ∷ flag (codes "machine")
+    ∷ optional (codes "scripts")
     ∷ optional (codes "write")
     ∷ repeated (codes "show")
     ∷ file (codes "IMAGE")

@@ -2,11 +2,12 @@
 
 ghost use Rattle.std.specs.Prelude.{◌≡◌, IfOk, codes, false, true};
 ghost use Rattle.clap.specs.Words.{App, Rule, app_of, new_app, rule_of, with_rule, with_subcommand};
-ghost use Rattle.command_settings.specs.Usage.{AreModelNames, ModelNames, IsUsage, app_for, chart, check, explain, explore, fences, file_rule, flag_rule, least_limit, least_window, machine_arguments, model_rule, most_limit, most_size, most_window, named_rule, number_rule, optional_rule, page, repeated_rule, replay, replay_arguments, required_rule, run, sample_arguments, search_arguments, window_arguments, with_arguments};
+ghost use Rattle.command_settings.specs.Usage.{AreModelNames, ModelNames, IsUsage, app_for, chart, check, explain, explore, fences, file_rule, flag_rule, least_limit, least_window, machine_arguments, model_rule, most_limit, most_size, most_threads, most_window, named_rule, number_rule, optional_rule, page, repeated_rule, replay, replay_arguments, required_rule, run, sample_arguments, search_arguments, window_arguments, with_arguments};
 
 use crate::help::{
     ALLOW_HELP, CHART_HELP, CHECK_HELP, EXPLAIN_HELP, EXPLORE_HELP, FAIL_ON_HELP, FENCES_HELP,
-    LINE_HELP, PAGE_HELP, PROGRAM_HELP, REPLAY_HELP, RUN_HELP, SCRIPTS_HELP, SHOW_HELP,
+    LINE_HELP, PAGE_HELP, PROGRAM_HELP, REPLAY_HELP, RUN_HELP, SCRIPTS_HELP, SHOW_HELP, UNTIL_HELP,
+    WITNESSES_HELP,
 };
 use clap::builder::ValueParser;
 use clap::{Arg, ArgAction, Command};
@@ -26,6 +27,9 @@ const SAMPLE_RANGE: (u64, u64) = (0, 1_000_000_000);
 
 /// The least and the greatest number of a hart's operations that may wait at a time.
 const WINDOW_RANGE: (u64, u64) = (1, 64);
+
+/// The least and the greatest number of searches side by side.
+const THREADS_RANGE: (u64, u64) = (0, 64);
 
 /// The greatest number of a machine's size, or of what random runs begin from.
 const MOST: u64 = 4_294_967_295;
@@ -152,8 +156,10 @@ fn fences_command<'a>(alloc: Global, models: &'a [&'a str]) -> Result<Command<'a
     let command = with_machine(alloc, models, command);
     let command = add_arg(command, states(alloc));
     let command = add_arg(command, window(alloc));
+    let command = add_arg(command, threads(alloc));
     let command = add_arg(command, allow(alloc));
     let command = add_arg(command, machine_outcomes(alloc));
+    let command = add_arg(command, witnesses(alloc));
     let command = add_arg(command, written(alloc));
     let command = add_arg(command, show(alloc));
     add_arg(command, image(alloc))
@@ -221,7 +227,8 @@ fn with_search<'a>(
     let command = add_arg(command, whole(alloc));
     let command = add_arg(command, allow(alloc));
     let command = add_arg(command, fail_on(alloc));
-    add_arg(command, first(alloc))
+    let command = add_arg(command, first(alloc));
+    add_arg(command, until(alloc))
 }
 
 /// Random runs in place of a search.
@@ -385,6 +392,20 @@ fn window<'a>(alloc: Global) -> Arg<'a>
     )
 }
 
+fn threads<'a>(alloc: Global) -> Arg<'a>
+    ensures rule { rule_of result ≡ number_rule (codes "threads") (codes "0") 0 most_threads }
+    ensures local { result.global ≡ false }
+{
+    number(
+        alloc,
+        "threads",
+        "N",
+        "0",
+        THREADS_RANGE,
+        "how many searches may go side by side, 1 to 64, or 0 for as many as there are processors; what is told is the same",
+    )
+}
+
 fn scripts<'a>(alloc: Global) -> Arg<'a>
     ensures rule { rule_of result ≡ optional_rule (codes "scripts") }
     ensures local { result.global ≡ false }
@@ -428,6 +449,13 @@ fn first<'a>(alloc: Global) -> Arg<'a>
     )
 }
 
+fn until<'a>(alloc: Global) -> Arg<'a>
+    ensures rule { rule_of result ≡ optional_rule (codes "until") }
+    ensures local { result.global ≡ false }
+{
+    optional(alloc, "until", "MESSAGE", UNTIL_HELP)
+}
+
 fn show<'a>(alloc: Global) -> Arg<'a>
     ensures rule { rule_of result ≡ repeated_rule (codes "show") }
     ensures local { result.global ≡ false }
@@ -444,6 +472,13 @@ fn machine_outcomes<'a>(alloc: Global) -> Arg<'a>
         "machine",
         "ask for the outcomes that this machine shows, in place of those that the memory model allows",
     )
+}
+
+fn witnesses<'a>(alloc: Global) -> Arg<'a>
+    ensures rule { rule_of result ≡ optional_rule (codes "scripts") }
+    ensures local { result.global ≡ false }
+{
+    optional(alloc, "scripts", "FOLDER", WITNESSES_HELP)
 }
 
 fn written<'a>(alloc: Global) -> Arg<'a>

@@ -200,8 +200,14 @@ pub(crate) const SHOW_HELP: &str =
 pub(crate) const SCRIPTS_HELP: &str =
     "the folder, which has to exist, to write outcome-1.script .., failure-1.script .. and stuck.script into, each for replay; and outcome-1.trace .., each for check, of outcomes that this machine wasn't found to show. Other files there stay, also those of an earlier search";
 
+pub(crate) const WITNESSES_HELP: &str =
+    "the folder, which has to exist, to write a run into for each ordering that is told as needed, with that ordering left out: needed-1.trace .., each for check, in the order of the lines told, or with --machine needed-1.script .., each for replay. Other files there stay, also those of an earlier search";
+
 pub(crate) const ALLOW_HELP: &str =
     "the file with the allowed outcomes, a line each as printed, with or without its number, and with a * for any number in it; where another is found it is told and the status is 3";
+
+pub(crate) const UNTIL_HELP: &str =
+    "end the search where this message is sent, 'NAME HART LINE' as an M line of a trace has them, with a * for any of them; goes with neither --architecture nor --first";
 
 pub(crate) const FAIL_ON_HELP: &str =
     "what the search may not come to, with a comma between each two: failure (a hart stopped, whatever the others do then; with --architecture or --sample only in an outcome), stuck (from some state no schedule ends), incomplete (not all was searched); where it comes to one it is told and the status is 3";

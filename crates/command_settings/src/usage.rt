@@ -240,6 +240,7 @@ fn explore_of<'a>(matches: &ArgMatches<'a>) -> Option<Explore<'a>>
         allow: matches.get_str("allow"),
         fail_on: matches.get_str("fail-on"),
         first: matches.get_flag("first"),
+        until: matches.get_str("until"),
         sample: number_of(matches, "sample")?,
         seed: number_of(matches, "seed")?,
         architecture: matches.get_flag("architecture"),
@@ -269,8 +270,10 @@ fn fences_of<'a>(matches: &ArgMatches<'a>) -> Option<Fences<'a>>
         machine: machine_of(matches)?,
         states: number_of(matches, "states")?,
         window: number_of(matches, "window")?,
+        threads: number_of(matches, "threads")?,
         allow: matches.get_str("allow"),
         subject: subject_of(matches),
+        scripts: matches.get_str("scripts"),
         write: matches.get_str("write"),
         image: matches.get_str("IMAGE")?,
     })

@@ -1,7 +1,7 @@
 //! What the words of the command line ask for.
 
 ghost use Rattle.std.specs.Prelude.{◌↔◌, ◌≡◌, ◌⊎◌, IsSome, IsTrue};
-ghost use Rattle.command_settings.specs.Settings.{AreConflicting, HasConflict, HasNoRules, IsBesideMessages, IsBlind, IsTwofold, IsUnknown, IsUnsearched, are_all, are_conditions, are_skipped, asks_of_messages, asks_tilelink, has_word, is_condition, is_profile, lists, shortens};
+ghost use Rattle.command_settings.specs.Settings.{AreConflicting, HasConflict, HasNoRules, HasTwoEnds, IsBesideMessages, IsBlind, IsTwofold, IsUnknown, IsUnsearched, are_all, are_conditions, are_skipped, asks_of_messages, asks_tilelink, has_word, is_condition, is_profile, lists, shortens};
 
 use clap::error::ErrorKind;
 use machine_types::MemoryModel;
@@ -19,6 +19,10 @@ const BLIND: &str =
 /// What to do where a search is to end at its first, and there is none.
 const UNSEARCHED: &str =
     "--first ends a search, and goes with --allow, --show and --architecture: leave it out, or else --sample";
+
+/// What to do where a search is to end at a message, and elsewhere too, or none is sent in it.
+const TWO_ENDS: &str =
+    "--until ends the machine's search at a message: leave it out, or else --architecture and --first";
 
 /// What to do where a search is to fail on what there isn't.
 const UNKNOWN: &str =
@@ -109,6 +113,8 @@ pub struct Explore<'a> {
     pub fail_on: Option<&'a str>,
     /// The search ends at the first failure, and at the first outcome that the file doesn't allow.
     pub first: bool,
+    /// The message at which the search ends, as a trace writes it.
+    pub until: Option<&'a str>,
     /// How many random runs to make in place of a search: 0 to 1000000000, and none where it is 0.
     pub sample: u32,
     /// What the random runs begin from.
@@ -159,6 +165,13 @@ impl Explore<'_> {
         self.first && 0 < self.sample
     }
 
+    /// Whether a message is asked for at which the search ends, and none is sent in it, or it is to end elsewhere.
+    fn has_two_ends(&self) -> bool
+        ensures { IsTrue result ↔ HasTwoEnds self.now }
+    {
+        self.until.is_some() && (self.architecture || self.first)
+    }
+
     /// Whether the search is to fail on what there isn't.
     fn is_unknown(&self) -> bool
         ensures { IsTrue result ↔ IsUnknown self.now }
@@ -177,6 +190,8 @@ impl Explore<'_> {
             Some(TWOFOLD)
         } else if self.is_unsearched() {
             Some(UNSEARCHED)
+        } else if self.has_two_ends() {
+            Some(TWO_ENDS)
         } else if self.is_unknown() {
             Some(UNKNOWN)
         } else if self.is_blind() {
@@ -235,10 +250,14 @@ pub struct Fences<'a> {
     pub states: u32,
     /// How many operations of a hart may wait at a time: 1 to 64.
     pub window: u32,
+    /// How many searches go side by side, 0 to 64: as many as there are processors where it is 0.
+    pub threads: u32,
     /// The file with the outcomes that are allowed, in place of those of the program as it is.
     pub allow: Option<&'a str>,
     /// Whose outcomes are compared.
     pub subject: Subject,
+    /// The folder into which go runs that show what is lost without an ordering that is needed.
+    pub scripts: Option<&'a str>,
     /// The file into which the program goes with the orderings that are enough.
     pub write: Option<&'a str>,
     pub image: &'a str,

@@ -1,6 +1,5 @@
 -- What is known of an exploration, and what it leaves.
-use Rattle.std.proofs.Common.{◌≡◌, ◌≢◌, ◌∙◌, ℕ, Err, IfErr, IfOk, IfSome, List, None, Ok, Option, Result, Some, [], ap, inl, inr, length, map, subst, sym}
-use Rattle.std.proofs.lemmas.List.{append-nil}
+use Rattle.std.proofs.Common.{◌≡◌, ◌≢◌, ℕ, Err, IfErr, IfOk, IfSome, List, None, Ok, Option, Result, Some, [], ap, inr, length, map, subst, sym}
 use Rattle.std.specs.Io.KnownBytes.{Appends}
 use Rattle.command_files.specs.Faults.{Name}
 use Rattle.command_files.specs.Contents.{Contents}
@@ -23,6 +22,7 @@ use Rattle.explorer.specs.declared.exploration.Exploration.{Exploration}
 use Rattle.machine_types.specs.declared.config.Config.{Config}
 use Rattle.script_commands.specs.Named.{HoldsNamedImage}
 use Rattle.state_search.specs.declared.findings.Extent.TheVariants as extent
+pub use Rattle.search_files.proofs.Files.{all_of, spared, spared_after}
 use Rattle.text_fields.specs.Writing.{Begins}
 use Rattle.std.proofs.Common.{◌≤◌, All}
 use Rattle.std.specs.List.Sorted.{IsStrictlySortedBy}
@@ -47,21 +47,6 @@ ok_both P Q (Err e) one other = tt
 pub err_more : {T E : Type 0} (P Q : E → Type 0) (r : Result T E) → ((e : E) → P e → Q e) → IfErr r P → IfErr r Q
 err_more P Q (Ok x) more so = tt
 err_more P Q (Err e) more so = more e so
-
--- all of a text is a beginning of it
-pub all_of : (old new : Option (List ℕ)) (text : List ℕ) → Appends old new text → Begins old new text
-all_of old new text sent = record { front = text; rest = []; parts = sym (append-nil text); sent = sent }
-
--- files that are all as before
-pub spared : (IsWritten : List ℕ → Type 0) (held left : Contents) → left ≡ held → SparesOthers IsWritten held left
-spared IsWritten held left same name = inl (ap (λ (h : Contents). h name) same)
-
--- and those that one step spares behind others that leave all as before
-pub spared_after : (IsWritten : List ℕ → Type 0) (held mid left : Contents) → mid ≡ held → SparesOthers IsWritten mid left → SparesOthers IsWritten held left
-spared_after IsWritten held mid left same spares name = elim (spares name) [
-  | inl still ↦ inl (still ∙ ap (λ (h : Contents). h name) same)
-  | inr written ↦ inr written
-]
 
 -- what one file's bytes say of the lines, all files say
 pub judged : (held : Contents) (allow : Option Name) (text : Option (List ℕ)) (lines : List (List ℕ)) (fails : List ℕ) (judgement : Judgement) → IsAllowFile held allow text → judgement ≡ judgement_of_lines text lines fails → IsJudged held allow lines fails judgement

@@ -8,6 +8,7 @@ use Rattle.command_files.specs.declared.fault.Fault.TheVariants.{BadAddress, Bad
 use Rattle.command_settings.specs.declared.wanted.Explore.{Explore}
 use Rattle.command_files.specs.Allowing.{IsNamedBy}
 use Rattle.explore_command.specs.Exploring.{ComesBeforeScripts, IsExploreFault, IsFirstFault, IsFolderFault, IsReadingFault, LeavesPart}
+pub use Rattle.search_files.proofs.Files.{folder_late, output_left}
 use Rattle.text_fields.specs.Writing.{Begins}
 
 -- ---- files that are read
@@ -127,19 +128,7 @@ output_told held explore fault is = elim is [
   | inr at ↦ subst (IsExploreFault held explore) (sym at) tt
 ]
 
-pub output_left : (fault : Fault) (old new : Option (List ℕ)) (Has : (List ℕ → Type 0) → Type 0) → (fault ≡ CannotWrite) ⊎ (fault ≡ OutOfMemory) → Has (Begins old new) → LeavesPart fault old new Has
-output_left fault old new Has is so = elim is [
-  | inl at ↦ subst (λ f. LeavesPart f old new Has) (sym at) so
-  | inr at ↦ subst (λ f. LeavesPart f old new Has) (sym at) (inr so)
-]
-
 -- ---- what is told before scripts are written
-
-pub folder_late : (scripts : Option Name) (fault : Fault) → IsNamedBy scripts IsFolderFault fault → ComesBeforeScripts fault → ⊥
-folder_late scripts fault so early = elim (folder_fault scripts fault so) [
-  | inl at ↦ subst ComesBeforeScripts at.2 early
-  | inr at ↦ subst ComesBeforeScripts at early
-]
 
 pub memory_late : (fault : Fault) → fault ≡ OutOfMemory → ComesBeforeScripts fault → ⊥
 memory_late fault is early = subst ComesBeforeScripts is early

@@ -1,18 +1,10 @@
 -- Scripts that were written stay where further ones are written.
-use Rattle.std.proofs.Common.{◌≡◌, ◌≢◌, ◌∙◌, ◌⊎◌, ◌+◌, ◌^◌, ◌<◌, ◌≤◌, ℕ, Bool, List, [], ◌∷◌, ◌++◌, ◌-◌, IfSome, OnOk, Ok, Err, None, Option, Result, Some, drop, get_or, take, true, false, ap, arith, codes, decimal, inl, inr, length, refl, slice_index, subst, sym}
+use Rattle.std.proofs.Common.{◌≡◌, ◌≢◌, ◌∙◌, ◌+◌, ◌^◌, ◌<◌, ◌≤◌, ℕ, List, [], ◌∷◌, ◌++◌, ◌-◌, IfSome, None, Option, Some, drop, get_or, take, ap, arith, codes, decimal, inl, inr, length, refl, slice_index, subst, sym}
 use Rattle.std.specs.Borrow.{Bor}
-use Rattle.std.specs.Str.{bytes_eq}
 use Rattle.std.proofs.lemmas.Fmt.{decimal_injective}
 use Rattle.std.proofs.lemmas.List.{append_cancel_left, append_cancel_right, append_assoc, append-nil, drop_more, length-append, length-drop, take-append-drop}
-use Rattle.std.proofs.lemmas.Slice.Eq.{bytes_eq-Decides}
-use Rattle.command_files.specs.Files.{HoldsScript}
-use Rattle.command_files.specs.Contents.{Contents, HoldsBytes}
-use Rattle.command_files.specs.Sizes.{script_for}
-use Rattle.command_files.proofs.Limits.{script_within}
-use Rattle.elf_loader.specs.Size.{IsMemoryKib}
+use Rattle.command_files.specs.Contents.{Contents}
 use Rattle.machine_types.specs.declared.config.Config.{Config}
-use Rattle.machine_types.specs.declared.event.Event.{Event}
-use Rattle.std.specs.List.{AllByRecursion}
 use Rattle.explore_command.specs.Keeping.{AreFailuresKept, AreKept, AreKeptFrom, AreNumbered, FileName, IsFailureScript, IsInNamed, IsKeptAt, IsNumbered, IsOutcomeScript, IsScriptFile, IsScriptOf, SparesOthers, failure_path, outcome_path, stuck_path}
 use Rattle.explorer.specs.declared.exploration.Exploration.{Exploration}
 use Rattle.explorer.specs.declared.exploration.Stuck.{Stuck}
@@ -20,8 +12,8 @@ use Rattle.explorer.specs.declared.found.Found.{Found}
 use Rattle.explorer.specs.declared.found.FoundFailure.{FoundFailure}
 use Rattle.explorer.specs.declared.found.Realisation.{Realisation}
 use Rattle.explorer.specs.declared.found.Realisation.TheVariants.{Events, Limit, NoMemory, Unrealised}
-use Rattle.trace_text.specs.Scripts.{IsEvent, text}
-use Rattle.trace_text.specs.declared.script.Script.{Script as Text}
+pub use Rattle.search_files.proofs.Files.{on_ok, spares_more, spares_wider}
+use Rattle.search_files.proofs.Files.{script_stays, spares_then, unwritten}
 
 -- ---- paths
 
@@ -52,32 +44,11 @@ never_failure folder n m same =
     let behind : codes "/outcome-" ++ (decimal n ++ codes ".script") ≡ codes "/failure-" ++ (decimal m ++ codes ".script") = append_cancel_left folder _ _ same in
     let bad : 111 ≡ 102 = ap (λ (xs : List ℕ). slice_index xs 1) behind in absurd (omega (arith, bad))
 
--- ---- one file
-
-pub on_ok : {T E : Type 0} (P Q : Type 0) (r : Result T E) → (P → Q) → OnOk r P → OnOk r Q
-on_ok P Q (Ok x) more so = more so
-on_ok P Q (Err e) more so = tt
-
--- a file of such a script's text has the script
-pub script_held : (left : Contents) (path : FileName) (config : Config) (kib : ℕ) (script : Text) (items events : List Event) → script ≡ script_for config kib items → items ≡ events
-    → IsMemoryKib kib → AllByRecursion IsEvent script.events → HoldsBytes left path (text script) → HoldsScript left path (script_for config kib events)
-script_held left path config kib script items events script_is items_is sized spelt bytes =
-    subst (HoldsScript left path) (script_is ∙ ap (script_for config kib) items_is) (record {
-      is_script = record { head = script_within script (subst (λ (s : Text). IsMemoryKib s.kib) (sym script_is) sized); events = spelt };
-      bytes = bytes;
-    })
-
 -- ---- what another file's writing leaves
 
 module _ (before after : Contents) (config : Config) (kib : ℕ) where
-  holds : (name : FileName) (script : Text) → after name ≡ before name → HoldsScript before name script → HoldsScript after name script
-  holds name script same held = record {
-    is_script = held.is_script;
-    bytes = subst (λ (o : Option (List ℕ)). IfSome o (λ known. known ≡ text script)) (sym same) held.bytes;
-  }
-
   kept_still : (name : FileName) (script : Realisation) → after name ≡ before name → IsKeptAt before config kib name script → IsKeptAt after config kib name script
-  kept_still name (Events events) same kept = holds name _ same kept
+  kept_still name (Events events) same kept = script_stays before after name _ same kept
   kept_still name NoMemory same kept = kept
   kept_still name Limit same kept = kept
   kept_still name Unrealised same kept = kept
@@ -89,21 +60,6 @@ module _ (before after : Contents) (config : Config) (kib : ℕ) where
     kept_still (path number) (script x) (same number (omega arith) (omega arith)) kept.0,
     numbered_still path script (number + 1) xs (λ n from below. same n (omega (arith, from)) (omega (arith, below))) kept.1,
   )
-
-module _ (before after : Contents) (path : FileName) (others : (other : FileName) → other ≢ path → after other ≡ before other) where
-  pub spares_more : (IsWritten : FileName → Type 0) (held : Contents) → IsWritten path → SparesOthers IsWritten held before → SparesOthers IsWritten held after
-  spares_more IsWritten held is spared other = go (bytes_eq other path) refl
-    where
-      go : (b : Bool) → bytes_eq other path ≡ b → (after other ≡ held other) ⊎ IsWritten other
-      go true same = inr (subst IsWritten (sym ((bytes_eq-Decides other path).0 same)) is)
-      go false differs = elim (spared other) [
-        | inl still ↦ inl (others other (λ same. never differs ((bytes_eq-Decides other path).1 same)) ∙ still)
-        | inr written ↦ inr written
-      ]
-        where
-          never : {b : Bool} → b ≡ false → b ≡ true → ⊥
-          never is also =
-              let bad : false ≡ true = sym is ∙ also in cc
 
 -- ---- from the last one to the first
 
@@ -164,13 +120,6 @@ module _ {X : Type 0} (path_of : ℕ → FileName) (script : X → Realisation) 
 
 -- ---- all scripts
 
--- what wasn't written over is as it was
-unwritten : (IsWritten : FileName → Type 0) (held left : Contents) (name : FileName) → SparesOthers IsWritten held left → (IsWritten name → ⊥) → left name ≡ held name
-unwritten IsWritten held left name spares never = elim (spares name) [
-  | inl still ↦ still
-  | inr is ↦ absurd (never is)
-]
-
 -- failures' scripts leave outcomes' as they are
 pub outcomes_still : (before after : Contents) (config : Config) (kib : ℕ) (folder : FileName) (count : ℕ) (outcomes : List Found) → SparesOthers (IsFailureScript count folder) before after → AreKeptFrom before config kib folder 1 outcomes → AreKeptFrom after config kib folder 1 outcomes
 outcomes_still before after config kib folder count outcomes spares kept =
@@ -198,27 +147,10 @@ none_stuck_kept after config kib folder e outcomes failures outcomes_are failure
 
 -- ---- which files those are
 
--- more files may be written
-pub spares_wider : (IsWritten MayBe : FileName → Type 0) (held left : Contents) → ((name : FileName) → IsWritten name → MayBe name) → SparesOthers IsWritten held left → SparesOthers MayBe held left
-spares_wider IsWritten MayBe held left wider spares name = elim (spares name) [
-  | inl still ↦ inl still
-  | inr is ↦ inr (wider name is)
-]
-
 pub outcome_spared : (outcomes : List Found) (e : Exploration) (folder : FileName) (held left : Contents) → outcomes ≡ e.outcomes.items → SparesOthers (IsOutcomeScript (length outcomes) folder) held left
     → SparesOthers (IsScriptOf (length e.outcomes.items) (length e.failures.items) e.stuck folder) held left
 outcome_spared outcomes e folder held left same = spares_wider _ _ held left
     (λ name is. inl (subst (λ (xs : List Found). IsOutcomeScript (length xs) folder name) same is))
-
--- what spares others twice spares them
-spares_then : (IsWritten : FileName → Type 0) (held mid left : Contents) → SparesOthers IsWritten held mid → SparesOthers IsWritten mid left → SparesOthers IsWritten held left
-spares_then IsWritten held mid left first second name = elim (second name) [
-  | inr is ↦ inr is
-  | inl still ↦ elim (first name) [
-    | inr is ↦ inr is
-    | inl before ↦ inl (still ∙ before)
-  ]
-]
 
 pub failures_spared : (outcomes : List Found) (failures : List FoundFailure) (e : Exploration) (folder : FileName) (held mid left : Contents) → outcomes ≡ e.outcomes.items → failures ≡ e.failures.items
     → SparesOthers (IsOutcomeScript (length outcomes) folder) held mid → SparesOthers (IsFailureScript (length failures) folder) mid left → SparesOthers (IsScriptOf (length e.outcomes.items) (length e.failures.items) e.stuck folder) held left

@@ -1,5 +1,5 @@
 -- Files that were written stay where further ones are written.
-use Rattle.std.proofs.Common.{◌≡◌, ◌≢◌, All, ◌∙◌, ◌+◌, ◌^◌, ◌<◌, ◌≤◌, ◌-◌, ℕ, List, [], ◌∷◌, ◌++◌, IfSome, None, Option, Some, drop, get_or, take, ap, arith, codes, decimal, fold, inl, inr, length, refl, subst, sym}
+use Rattle.std.proofs.Common.{◌≡◌, ◌≢◌, All, ◌∙◌, ◌+◌, ◌^◌, ◌<◌, ◌≤◌, ◌-◌, ℕ, List, [], ◌∷◌, ◌++◌, None, Option, Some, drop, get_or, take, ap, arith, codes, decimal, fold, inl, inr, length, refl, subst, sym}
 use Rattle.std.specs.Borrow.{Bor}
 use Rattle.std.proofs.lemmas.Fmt.{decimal_injective}
 use Rattle.std.proofs.lemmas.List.{append_cancel_left, append_cancel_right, append_assoc, append-nil, drop_more, length-append, length-drop, take-append-drop}
@@ -9,16 +9,11 @@ use Rattle.explore_command.specs.ModelKeeping.{AreWaysKept, IsFileIn, IsFileInNa
 use Rattle.architecture_outcomes.specs.declared.outcome.Outcome.{Outcome}
 use Rattle.architecture_outcomes.specs.declared.outcome.Way.{Way}
 use Rattle.architecture_outcomes.specs.declared.outcome.Way.TheVariants.{Machine, Model, ModelAlone}
-use Rattle.command_files.specs.Files.{HoldsScript, HoldsTrace}
-use Rattle.command_files.specs.Contents.{Contents, HoldsBytes}
+use Rattle.command_files.specs.Contents.{Contents}
 use Rattle.machine_types.specs.declared.config.Config.{Config}
-use Rattle.explore_command.proofs.Kept.{spares_more}
+use Rattle.search_files.proofs.Files.{script_stays, spares_more, trace_stays}
 use Rattle.explore_command.specs.Keeping.{FileName, IsInNamed, SparesOthers, outcome_path}
 use Rattle.explorer.specs.declared.found.Realisation.TheVariants.{Events, Limit, NoMemory, Unrealised}
-use Rattle.trace_recorder.specs.History.{History}
-use Rattle.trace_text.specs.Scripts.{text}
-use Rattle.trace_text.specs.Traces.{text as trace_of}
-use Rattle.trace_text.specs.declared.script.Script.{Script as Text}
 
 -- ---- paths
 
@@ -58,22 +53,13 @@ is_file folder path number (Model w) is = inr (number, is)
 -- ---- what another file's writing leaves
 
 module _ (before after : Contents) (config : Config) (kib : ℕ) (folder path : FileName) (others : (other : FileName) → other ≢ path → after other ≡ before other) where
-  bytes_stay : (name bytes : FileName) → after name ≡ before name → HoldsBytes before name bytes → HoldsBytes after name bytes
-  bytes_stay name bytes same held = subst (λ (o : Option (List ℕ)). IfSome o (λ known. known ≡ bytes)) (sym same) held
-
-  script_stays : (name : FileName) (script : Text) → after name ≡ before name → HoldsScript before name script → HoldsScript after name script
-  script_stays name script same held = record { is_script = held.is_script; bytes = bytes_stay name (text script) same held.bytes }
-
-  trace_stays : (name : FileName) (trace : History) → after name ≡ before name → HoldsTrace before name trace → HoldsTrace after name trace
-  trace_stays name trace same held = record { is_trace = held.is_trace; bytes = bytes_stay name (trace_of trace) same held.bytes }
-
   kept_at : (name : FileName) (way : Way) → name ≢ path → IsWayKeptAt before config kib name way → IsWayKeptAt after config kib name way
-  kept_at name (Machine (Events events)) another kept = script_stays name _ (others name another) kept
+  kept_at name (Machine (Events events)) another kept = script_stays before after name _ (others name another) kept
   kept_at name (Machine NoMemory) another kept = kept
   kept_at name (Machine Limit) another kept = kept
   kept_at name (Machine Unrealised) another kept = kept
-  kept_at name (ModelAlone trace) another kept = trace_stays name _ (others name another) kept
-  kept_at name (Model trace) another kept = trace_stays name _ (others name another) kept
+  kept_at name (ModelAlone trace) another kept = trace_stays before after name _ (others name another) kept
+  kept_at name (Model trace) another kept = trace_stays before after name _ (others name another) kept
 
   kept_from : (number : ℕ) (outcomes : List Outcome) → ((n : ℕ) (w : Way) → number ≤ n → n < number + length outcomes → path ≢ file_path folder n w) → AreWaysKept before config kib folder number outcomes
       → AreWaysKept after config kib folder number outcomes

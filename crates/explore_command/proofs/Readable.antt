@@ -1,135 +1,26 @@
 -- The trace of a witness is within the limits of its text.
-use Rattle.std.proofs.Common.{◌≡◌, ◌∙◌, ◌+◌, ◌*◌, ◌/◌, ◌^◌, ◌<◌, ◌≤◌, ℕ, suc, zero, true, List, [], ◌∷◌, Option, Some, None, All, ap, arith, length, refl, slice_index_or, subst, sym}
-use Rattle.std.specs.Prelude.{slice_index}
-use Rattle.std.specs.List.{AllByRecursion}
-use Rattle.std.proofs.lemmas.Bool.{and_parts, false≢true}
-use Rattle.std.proofs.lemmas.List.Elements.{All-weaker, recursion_from_All}
-use Rattle.machine_types.specs.declared.limits.TheConstants.{MAX_ENTRIES}
-use Rattle.explore_command.specs.ModelKeeping.{HasText}
+use Rattle.std.proofs.Common.{All, List, ℕ, subst, sym}
+use Rattle.std.proofs.lemmas.List.Elements.{All-weaker}
 use Rattle.architecture_outcomes.specs.Outcomes.{IsWitnessed, IsWitnessedBy}
 use Rattle.architecture_outcomes.specs.declared.outcome.Outcome.{Outcome}
 use Rattle.architecture_outcomes.specs.declared.outcome.Way.{Way}
 use Rattle.architecture_outcomes.specs.declared.outcome.Way.TheVariants.{Machine, Model, ModelAlone}
-use Rattle.elf_loader.specs.Image.{Initial, IsImage}
-use Rattle.elf_loader.specs.Size.{IsMemoryKib, IsMemorySize}
-use Rattle.hart.specs.declared.retired.Retired.{Retired}
-use Rattle.hart.specs.declared.status.Status.{Status}
-use Rattle.hart.specs.declared.status.Status.TheVariants.{Running, Stopped, Exited}
-use Rattle.hart.specs.Run.{is_run}
-use Rattle.machine_types.proofs.Within.{config_limits}
-use Rattle.machine_types.specs.declared.config.Config.{Config}
-use Rattle.machine_model.specs.Ranges.{HasCode, HasWords, NamesPlace}
-use Rattle.machine_model.proofs.ranges.Runs.{named_in_range, runs_in_range}
-use Rattle.memory_model.specs.Traces.{are_runs_from}
-use Rattle.trace_recorder.specs.History.{History}
-use Rattle.trace_recorder.specs.declared.operation.OpId.{OpId}
-use Rattle.trace_text.specs.TraceHeads.{IsTraceHead}
-use Rattle.trace_text.specs.TraceLimits.{IsHart, IsLoaded, IsLogged, IsOperation, IsRetired, IsStatus, IsTrace}
-use Rattle.trace_text.specs.Traces.{head_of}
 use Rattle.architecture_outcomes.specs.Witness.{Witness}
 use Rattle.architecture_outcomes.specs.Witnesses.{IsWitness}
-
-all_more : {X : Type 0} (P Q : X → Type 0) → ((x : X) → P x → Q x) → (xs : List X) → AllByRecursion P xs → AllByRecursion Q xs
-all_more P Q more [] all = tt
-all_more P Q more (x ∷ xs) all = (more x all.0, all_more P Q more xs all.1)
-
--- ---- entries, statuses and names
-
-loaded_fits : (o : Option ℕ) → ((n : ℕ) → o ≡ Some n → n < 2 ^ 32) → IsLoaded o
-loaded_fits None few = tt
-loaded_fits (Some n) few = few n refl
-
-retired_fits : (r : Retired) → HasWords r → IsRetired r
-retired_fits r w = record { pc = w.pc; word = w.word; loaded = loaded_fits r.loaded w.loaded }
-
-harts_fit : (lists : List (List Retired)) → AllByRecursion (AllByRecursion HasWords) lists → AllByRecursion (λ list. length list ≤ MAX_ENTRIES) lists → AllByRecursion IsHart lists
-harts_fit [] all few = tt
-harts_fit (list ∷ lists) all few = ((all_more HasWords IsRetired retired_fits list all.0, few.0), harts_fit lists all.1 few.1)
-
-status_fits : (status : Status) → HasCode status → IsStatus status
-status_fits Running has = tt
-status_fits (Stopped code) has = has.stopped code refl
-status_fits (Exited code) has = has.exited code refl
-
-as_many : (image : Initial) (harts id : ℕ) (lists : List (List Retired)) (statuses : List Status) → are_runs_from image harts id lists statuses ≡ true → length lists ≡ length statuses
-as_many image harts id [] [] e = refl
-as_many image harts id [] (status ∷ statuses) e = absurd (false≢true e)
-as_many image harts id (list ∷ lists) [] e = absurd (false≢true e)
-as_many image harts id (list ∷ lists) (status ∷ statuses) e =
-    let rest = as_many image harts (id + 1) lists statuses (and_parts (is_run image id harts list status) (are_runs_from image harts (id + 1) lists statuses) e).1 in
-    ap suc rest
-
-few_at : (lists : List (List Retired)) → AllByRecursion (λ list. length list ≤ MAX_ENTRIES) lists → (h : ℕ) → length (slice_index_or lists h []) ≤ MAX_ENTRIES
-few_at [] all h = omega arith
-few_at (list ∷ lists) all zero = all.0
-few_at (list ∷ lists) all (suc h) = few_at lists all.1 h
-
--- ---- memory and the head
-
-bytes_small : (bytes : List ℕ) → ((k : ℕ) → slice_index bytes k < 256) → AllByRecursion (λ b. b < 256) bytes
-bytes_small [] fit = tt
-bytes_small (b ∷ bytes) fit = (fit 0, bytes_small bytes (λ k. fit (suc k)))
-
-whole_kib : (size : ℕ) → IsMemorySize size → size / 1024 * 1024 ≡ size
-whole_kib size is = let pages = is.whole_pages in omega (arith, pages)
-
-memory_kib : (size : ℕ) → IsMemorySize size → IsMemoryKib (size / 1024)
-memory_kib size is =
-    let pages = is.whole_pages in
-    let low = is.at_least in
-    let high = is.at_most in
-    record { whole_pages = omega (arith, pages); at_least = omega (arith, low); at_most = omega (arith, high) }
+use Rattle.elf_loader.specs.Image.{Initial, IsImage}
+use Rattle.explore_command.specs.ModelKeeping.{HasText}
+use Rattle.machine_types.specs.declared.config.Config.{Config}
+use Rattle.search_files.proofs.Readable.{has_text}
+use Rattle.trace_text.specs.TraceLimits.{IsTrace}
 
 module _ (image : Initial) (config : Config) (loaded : IsImage image) where
-  head_fits : (t : History) → IsImage t.image → length t.statuses ≡ config.harts → IsTraceHead (head_of t)
-  head_fits t is count =
-      let limits = config_limits config in
-      let some = limits.some_harts in
-      let few = limits.few_harts in
-      let size = whole_kib (length t.image.bytes) is.legal_size in
-      let high = is.entry_inside.1 in
-      record {
-        some_hart = omega (arith, some, count);
-        few_harts = omega (arith, few, count);
-        memory = memory_kib (length t.image.bytes) is.legal_size;
-        aligned = is.aligned_entry;
-        from = is.entry_inside.0;
-        inside = omega (arith, high, size);
-      }
-
-  has_text : (w : Witness) → IsWitness image config w → IsTrace w.trace.history
-  has_text w is = record {
-    head = head_fits t here (sym lists ∙ is.harts);
-    memory = record { len = sym (whole_kib (length t.image.bytes) here.legal_size); small = bytes_small t.image.bytes here.bytes_fit };
-    lists = lists;
-    entries = harts_fit t.entries ranges.0 short;
-    performed = all_more (NamesPlace t) (IsOperation (length t.statuses)) placed t.performed (named_in_range t t.performed is.allowed.order.only);
-    log = subst (AllByRecursion (IsLogged (head_of t))) (sym is.no_log) tt;
-    statuses = all_more HasCode IsStatus status_fits t.statuses ranges.1;
-  }
-    where
-      t : History
-      t = w.trace.history
-
-      here : IsImage t.image
-      here = subst IsImage (sym is.image_is) loaded
-
-      lists : length t.entries ≡ length t.statuses
-      lists = as_many t.image (length t.entries) 0 t.entries t.statuses is.allowed.runs
-
-      short : AllByRecursion (λ list. length list ≤ MAX_ENTRIES) t.entries
-      short = recursion_from_All (λ (list : List Retired). length list ≤ MAX_ENTRIES) t.entries is.limits.places
-
-      ranges : AllByRecursion (AllByRecursion HasWords) t.entries × AllByRecursion HasCode t.statuses
-      ranges = runs_in_range t.image (length t.entries) 0 t.entries t.statuses here is.allowed.runs
-
-      placed : (name : OpId) → NamesPlace t name → IsOperation (length t.statuses) name
-      placed name at = let few = few_at t.entries short name.hart in let below = at.1 in (subst (λ n. name.hart < n) lists at.0, omega (arith, few, below))
+  of_witness : (w : Witness) → IsWitness image config w → IsTrace w.trace.history
+  of_witness w is = has_text config w.trace.history (subst IsImage (sym is.image_is) loaded) is.harts is.allowed.runs is.allowed.order.only is.limits.places is.no_log
 
   way_has_text : (addresses : List ℕ) (o : Outcome) (way : Way) → IsWitnessedBy image config addresses o way → HasText way
   way_has_text addresses o (Machine script) is = tt
-  way_has_text addresses o (ModelAlone trace) is = has_text (record { harts = o.harts; trace = trace }) is.0.witness
-  way_has_text addresses o (Model trace) is = has_text (record { harts = o.harts; trace = trace }) is.witness
+  way_has_text addresses o (ModelAlone trace) is = of_witness (record { harts = o.harts; trace = trace }) is.0.witness
+  way_has_text addresses o (Model trace) is = of_witness (record { harts = o.harts; trace = trace }) is.witness
 
   -- each trace that shows an outcome has one
   pub each_has_text : (addresses : List ℕ) (outcomes : List Outcome) → All (IsWitnessed image config addresses) outcomes → All (λ o. HasText o.way) outcomes

@@ -10,7 +10,7 @@ use Rattle.architecture_outcomes.specs.declared.outcome.Way.TheVariants.{Machine
 use Rattle.command_files.specs.Faults.{Name}
 use Rattle.notes.specs.Overtaking.{overtakings}
 use Rattle.notes.specs.declared.overtaking.Overtaking.{Overtaking}
-use Rattle.explore_command.proofs.Shown.{first_is}
+use Rattle.search_files.proofs.Words.{first_is}
 
 none_of : {A : Type 0} (xs : List A) → length xs < 1 → xs ≡ []
 none_of [] few = refl

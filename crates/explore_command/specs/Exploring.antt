@@ -28,9 +28,9 @@ use Rattle.explorer.specs.declared.exploration.Exploration.{Exploration}
 use Rattle.flat_model.specs.Flat.{Flat}
 use Rattle.machine_types.specs.declared.config.Config.{Config}
 use Rattle.script_commands.specs.Named.{HoldsNamedImage}
+pub use Rattle.search_files.specs.Faults.{ComesBeforeScripts, IsFolderFault, LeavesPart}
 use Rattle.state_search.specs.declared.findings.Extent.TheVariants.{Complete, LimitMet}
 use Rattle.state_search.specs.declared.findings.Extent.TheVariants as extent
-use Rattle.text_fields.specs.Writing.{Begins}
 
 -- it tells a hart that stops, whatever the other harts do then
 abbrev pub tells_failures : Exploration → Bool
@@ -102,10 +102,6 @@ pub record ExplorationRefusals (held : Contents) (wanted : Explore) (old new : O
 abbrev pub IsReadingFault : Contents → Explore → Fault → Type 0
 IsReadingFault held explore fault = IsNamedBy explore.allow IsReadFault fault ⊎ IsImageFault held explore.raw explore.image explore.machine.memory fault
 
--- a script can't be written into the folder, or memory ran out
-abbrev pub IsFolderFault : Name → Fault → Type 0
-IsFolderFault folder fault = (fault ≡ CannotMake folder) ⊎ (fault ≡ OutOfMemory)
-
 -- or the machine is out of limits, or no script could be written into the folder that was named
 abbrev pub IsFirstFault : Contents → Explore → Fault → Type 0
 IsFirstFault held explore fault = ((fault ≡ Configuration) × IsOutside explore.machine) ⊎ (IsReadingFault held explore fault ⊎ IsNamedBy explore.scripts IsFolderFault fault)
@@ -119,16 +115,3 @@ IsExploreFault held explore (CannotMake file) = explore.scripts ≡ Some file
 IsExploreFault held explore CannotWrite = Unit {0}
 IsExploreFault held explore OutOfMemory = Unit {0}
 IsExploreFault held explore _ = ⊥
-
--- what a fault leaves on standard output of the text of what was found: a beginning, where the output takes no more, all of it, where the folder takes none of the scripts after the search, or nothing
-abbrev pub LeavesPart : Fault → Option (List ℕ) → Option (List ℕ) → ((List ℕ → Type 0) → Type 0) → Type 0
-LeavesPart CannotWrite old new Has = Has (Begins old new)
-LeavesPart (CannotMake file) old new Has = (new ≡ old) ⊎ Has (Appends old new)
-LeavesPart OutOfMemory old new Has = (new ≡ old) ⊎ Has (Begins old new)
-LeavesPart _ old new Has = new ≡ old
-
--- it is told before scripts are written
-abbrev pub ComesBeforeScripts : Fault → Type 0
-ComesBeforeScripts (CannotMake file) = ⊥
-ComesBeforeScripts OutOfMemory = ⊥
-ComesBeforeScripts _ = Unit {0}

@@ -1,5 +1,5 @@
 -- The scripts that an exploration leaves in a folder.
-use Rattle.std.specs.Prelude.{ℕ, ◌≡◌, ◌≢◌, ◌⊎◌, ◌+◌, ◌<◌, ◌∷◌, ◌++◌, [], IfSome, IsSome, List, None, Option, Some, codes, decimal}
+use Rattle.std.specs.Prelude.{ℕ, ◌≡◌, ◌⊎◌, ◌+◌, ◌<◌, ◌∷◌, ◌++◌, [], IfSome, IsSome, List, Option, codes, decimal}
 use Rattle.std.specs.Borrow.{Bor}
 use Rattle.command_files.specs.Files.{HoldsScript}
 use Rattle.command_files.specs.Contents.{Contents}
@@ -11,9 +11,7 @@ use Rattle.explorer.specs.declared.found.FoundFailure.{FoundFailure}
 use Rattle.explorer.specs.declared.found.Realisation.{Realisation}
 use Rattle.explorer.specs.declared.found.Realisation.TheVariants.{Events}
 use Rattle.machine_types.specs.declared.config.Config.{Config}
-
-abbrev pub FileName : Type 0
-FileName = List ℕ
+pub use Rattle.search_files.specs.Folders.{FileName, HasName, IsInNamed, SparesOthers}
 
 -- FOLDER/outcome-NUMBER.script
 abbrev pub outcome_path : FileName → ℕ → FileName
@@ -71,18 +69,5 @@ IsFailureScript count folder name = IsNumbered (failure_path folder) count name
 abbrev pub IsScriptOf : (outcomes failures : ℕ) (stuck : Option Stuck) (folder name : FileName) → Type 0
 IsScriptOf outcomes failures stuck folder name = IsOutcomeScript outcomes folder name ⊎ (IsFailureScript failures folder name ⊎ (IsSome stuck × (name ≡ stuck_path folder)))
 
--- a folder was named, and the file is one of these in it
-abbrev pub IsInNamed : Option (Bor FileName) → (FileName → FileName → Type 0) → FileName → Type 0
-IsInNamed None IsIn name = ⊥
-IsInNamed (Some folder) IsIn name = IsIn folder.now name
-
--- the folder that was named, if one was, has a name
-abbrev pub HasName : Option (Bor FileName) → Type 0
-HasName folder = IfSome folder (λ name. name.now ≢ [])
-
 abbrev pub IsScriptFile : Option (Bor FileName) → FileName → Type 0
 IsScriptFile folder name = IsInNamed folder IsScriptIn name
-
--- no other file is another than before
-abbrev pub SparesOthers : (FileName → Type 0) → Contents → Contents → Type 0
-SparesOthers IsWritten held left = (other : FileName) → (left other ≡ held other) ⊎ IsWritten other

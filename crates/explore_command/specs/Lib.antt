@@ -4,7 +4,6 @@ pub mod Keeping
 pub mod Sampling
 pub mod Asking
 pub mod Showing
-pub mod Targets
 pub mod ModelKeeping
 pub mod Searching
 pub mod Telling
@@ -12,3 +11,4 @@ pub mod Passing
 pub mod Sparing
 pub mod Sought
 pub use Rattle.exploration_text.specs.declared.wording.WordName
+pub use Rattle.search_files.specs.Targets

@@ -10,7 +10,7 @@ ghost use Rattle.flat_model.specs.Shown.{told};
 ghost use Rattle.state_search.specs.declared.findings.Extent.TheVariants as extent;
 
 use crate::findings::Findings;
-use crate::keeping::{Folder, Keepable};
+use crate::keeping::{Folder, Keepable, keep_exploration};
 use command_files::{Fault, Files};
 use elf_symbols::Symbols;
 use exploration_text::{end_text, text_of};
@@ -88,6 +88,6 @@ impl Keepable for Explored<'_> {
     ghost IsFileOf = { λ e. IsScriptOf (length e.exploration.outcomes.items) (length e.exploration.failures.items) e.exploration.stuck };
 
     fn keep_in<'a, F: Files>(&self, folder: Folder<'a>, files: &mut F) -> Result<(), Fault<'a>> {
-        folder.keep(files, &self.exploration)
+        keep_exploration(folder, files, &self.exploration)
     }
 }

@@ -16,8 +16,7 @@ mod show;
 mod sparing;
 
 pub use architecture::architecture_files;
-pub use exploration_text;
 pub use exploring::explore_files;
 pub use laws::passing_is_safe;
 pub use sample::sample_files;
-pub use show::{Targets, show_files, targets_of};
+pub use show::show_files;

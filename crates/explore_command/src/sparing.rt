@@ -1,12 +1,12 @@
 //! What a search reads, and doesn't write over.
 
-ghost use Rattle.std.specs.Prelude.{◌≡◌, ◌≢◌, IfErr, IsNone, OnOk, false};
+ghost use Rattle.std.specs.Prelude.{◌≡◌, IfErr, OnOk};
 ghost use Rattle.explore_command.specs.Exploring.{IsFolderFault};
 ghost use Rattle.explore_command.specs.Keeping.{failure_path, outcome_path};
 ghost use Rattle.explore_command.specs.Sparing.{AreOthers, IsOther};
 
-use crate::keeping::Folder;
-use command_files::{Escaped, Fault, Files, remark};
+use crate::keeping::{Folder, failure_path, outcome_path, stuck_path};
+use command_files::{Fault, Files};
 use command_settings::Explore;
 
 /// Before which number of an outcome or a failure a folder is looked at.
@@ -23,7 +23,7 @@ pub(crate) fn spare_what_is_read<'a, F: Files>(
     ensures told { IfErr result (IsFolderFault folder.entry.name) }
     ensures stays { F.held files.new ≡ F.held files.old }
 {
-    let Ok(stuck) = folder.stuck_path() else {
+    let Ok(stuck) = stuck_path(folder) else {
         return Err(Fault::OutOfMemory);
     };
     spare_path(folder, files, &stuck, wanted)?;
@@ -45,7 +45,7 @@ fn spare_outcome<'a, F: Files>(
     ensures told { IfErr result (IsFolderFault folder.entry.name) }
     ensures stays { F.held files.new ≡ F.held files.old }
 {
-    let Ok(script) = folder.outcome_path(number) else {
+    let Ok(script) = outcome_path(folder, number) else {
         return Err(Fault::OutOfMemory);
     };
     spare_path(folder, files, &script, wanted)?;
@@ -63,7 +63,7 @@ fn spare_failure<'a, F: Files>(
     ensures told { IfErr result (IsFolderFault folder.entry.name) }
     ensures stays { F.held files.new ≡ F.held files.old }
 {
-    let Ok(script) = folder.failure_path(number) else {
+    let Ok(script) = failure_path(folder, number) else {
         return Err(Fault::OutOfMemory);
     };
     spare_path(folder, files, &script, wanted)
@@ -101,47 +101,9 @@ fn spare_path<'a, F: Files>(
     ensures told { IfErr result (λ fault. fault ≡ Fault.CannotMake folder.entry.name) }
     ensures stays { F.held files.new ≡ F.held files.old }
 {
-    let Some(what) = read_at(files, path, wanted) else {
-        return Ok(());
-    };
-    let path = Escaped(path);
-    remark(
-        folder.alloc,
-        files,
-        format_args!("{path}: this is {what}: name another folder for --scripts"),
-    );
-    Err(Fault::CannotMake { file: folder.name })
-}
-
-/// What is read from the file of this path, if anything is.
-fn read_at<F: Files>(files: &mut F, path: &str, wanted: Explore<'_>) -> Option<&'static str>
-    ensures apart { IsNone result → IsOther wanted.entry path.now }
-    ensures stays { F.held files.new ≡ F.held files.old }
-{
-    if is_of(files, path, wanted.image) {
-        return Some("the program");
-    }
+    folder.spare(files, path, wanted.image, "the program")?;
     match wanted.allow {
-        Some(allow) => allowed_at(files, path, allow),
-        None => None,
+        Some(allow) => folder.spare(files, path, allow, "the file of --allow"),
+        None => Ok(()),
     }
-}
-
-fn allowed_at<F: Files>(files: &mut F, path: &str, allow: &str) -> Option<&'static str>
-    ensures apart { IsNone result → path.now ≢ allow.now }
-    ensures stays { F.held files.new ≡ F.held files.old }
-{
-    if is_of(files, path, allow) {
-        Some("the file of --allow")
-    } else {
-        None
-    }
-}
-
-/// Whether the path is of the file of this name.
-fn is_of<F: Files>(files: &mut F, path: &str, name: &str) -> bool
-    ensures apart { result ≡ false → path.now ≢ name.now }
-    ensures stays { F.held files.new ≡ F.held files.old }
-{
-    path == name || files.are_same(name, path)
 }

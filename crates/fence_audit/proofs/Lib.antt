@@ -1,3 +1,4 @@
 mod Ends
 mod Found
+pub mod Shown
 mod Told

@@ -6,10 +6,10 @@ ghost use Rattle.fence_audit.specs.Searches.{ArePatchesOf, AreSearched, Grows, I
 ghost use Rattle.image_orderings.specs.Replaced.{IsPatchOf};
 
 use crate::answers::is_enough;
-use crate::searches::{Asking, Search};
+use crate::searches::{Asking, Search, Steps};
 use image_orderings::{Patch, milder_words, patches_with, word_in};
-use state_search::Watch;
 use std::alloc::AllocError;
+use std::thread::Threads;
 
 /// The searches of programs with more orderings, and the one that they lead to.
 #[derive(Drop)]
@@ -21,8 +21,9 @@ pub(crate) struct Added {
 impl Asking<'_> {
     /// Asks for the program with all of these orderings; where they are enough, for ever fewer of them, and at last for
     /// the program that is left without each.
-    pub(crate) fn addition<W: Watch>(
+    pub(crate) fn addition<R: Threads + Sync, W: Steps + Sync>(
         &self,
+        rt: &R,
         own: &[Patch],
         most: &[Patch],
         watch: &W,
@@ -38,13 +39,14 @@ impl Asking<'_> {
         if !is_enough(answer) {
             return Ok(Added { searches, last });
         }
-        let last = self.trimmed(&mut searches, own, most, last, watch)?;
+        let last = self.trimmed(rt, &mut searches, own, most, last, watch)?;
         Ok(Added { searches, last })
     }
 
     /// The program with each of its own words again in turn, and then with words that order less, where that is enough.
-    fn trimmed<W: Watch>(
+    fn trimmed<R: Threads + Sync, W: Steps + Sync>(
         &self,
+        rt: &R,
         searches: &mut Vec<Search>,
         own: &[Patch],
         most: &[Patch],
@@ -62,12 +64,13 @@ impl Asking<'_> {
     {
         let last = self.reverted(searches, own, most, last, watch)?;
         let last = self.milder(searches, own, most, last, watch)?;
+        self.prepare_reverted(rt, searches, own, &last, watch)?;
         self.ask_reverted(searches, own, &last, watch)?;
         Ok(last)
     }
 
     /// The program with each of its own words again in turn, where that is enough.
-    fn reverted<W: Watch>(
+    fn reverted<W: Steps + Sync>(
         &self,
         searches: &mut Vec<Search>,
         own: &[Patch],
@@ -93,7 +96,7 @@ impl Asking<'_> {
     }
 
     /// The program with words that order less where its own are replaced, where that is enough.
-    fn milder<W: Watch>(
+    fn milder<W: Steps + Sync>(
         &self,
         searches: &mut Vec<Search>,
         own: &[Patch],
@@ -118,7 +121,7 @@ impl Asking<'_> {
 
     /// The program with the first word that is enough of those that order less than the one at an address, unless that is
     /// its own.
-    fn milder_at<W: Watch>(
+    fn milder_at<W: Steps + Sync>(
         &self,
         searches: &mut Vec<Search>,
         own: Patch,
@@ -145,7 +148,7 @@ impl Asking<'_> {
     }
 
     /// Asks for the program with each of its own words again.
-    fn ask_reverted<W: Watch>(
+    fn ask_reverted<W: Steps + Sync>(
         &self,
         searches: &mut Vec<Search>,
         own: &[Patch],
@@ -166,7 +169,7 @@ impl Asking<'_> {
     }
 
     /// Asks for the program with one of its own words again.
-    fn ask_with<W: Watch>(
+    fn ask_with<W: Steps + Sync>(
         &self,
         searches: &mut Vec<Search>,
         own: Patch,

@@ -1,1 +1,4 @@
+mod Changed
+mod Readable
+mod Shown
 mod Told

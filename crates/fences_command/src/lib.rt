@@ -3,5 +3,6 @@
 
 mod fencing;
 mod keeping;
+mod witnesses;
 
 pub use fencing::fences_files;

@@ -107,6 +107,17 @@ impl Display for Line<'_> {
                     Rounded(rate)
                 )?;
             }
+            Stage::Audit {
+                programs,
+                most,
+                states,
+            } => {
+                write!(
+                    f,
+                    "{programs} programs of at most {most}, {} states",
+                    Rounded(states)
+                )?;
+            }
             Stage::Sample { runs, ends } => {
                 let rate = per_second(runs, self.elapsed);
                 write!(

@@ -7,6 +7,12 @@ pub enum Stage<'a> {
     Run { events: u64, retired: &'a [u64] },
     /// The states and the outcomes that were found.
     Explore { states: u64, outcomes: u64 },
+    /// The programs that were searched, of at most how many, and the states that were found of one.
+    Audit {
+        programs: u64,
+        most: u64,
+        states: u64,
+    },
     /// The random runs that were made, and the ends that they came to.
     Sample { runs: u64, ends: u64 },
 }

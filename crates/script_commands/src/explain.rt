@@ -4,4 +4,4 @@ mod explaining;
 mod named;
 
 pub use explaining::explain_script;
-pub use named::{NamedImage, named_image_in};
+pub use named::{ImageFile, NamedImage, image_file_in, named_image_in};

@@ -3,19 +3,15 @@
 ghost use Rattle.std.specs.Prelude.{◌≡◌, ◌≢◌, All, IfErr, IfOk, List, OnOk, ℕ};
 ghost use Rattle.std.specs.String.{string_bytes};
 ghost use Rattle.explore_command.specs.ModelKeeping.{AreWaysKept, HasText, IsWayFile, IsWayKeptAt, file_path};
-ghost use Rattle.command_files.specs.Files.{HoldsTrace};
 ghost use Rattle.elf_loader.specs.Size.{IsMemoryKib};
 ghost use Rattle.explore_command.specs.Exploring.{IsFolderFault};
 ghost use Rattle.explore_command.specs.Keeping.{SparesOthers};
-ghost use Rattle.trace_text.specs.TraceLimits.{IsTrace};
 
 use crate::keeping::{Destination, Folder};
 use architecture_outcomes::{Outcome, Way};
 use command_files::{Fault, Files};
 use explorer::Realisation;
 use std::alloc::AllocError;
-use trace_recorder::Trace;
-use trace_text::write_trace;
 
 /// Writes a file for each outcome, the last one first. An outcome of the machine without a script can't be written.
 pub(crate) fn keep_outcomes<'a, F: Files>(
@@ -69,33 +65,11 @@ fn keep_at<'a, F: Files>(
     ensures others { (other : List ℕ) → other ≢ path.now → F.held files.new other ≡ F.held files.old other }
 {
     match way {
-        Way::Machine(Realisation::Events(events)) => folder.write(files, path, events),
+        Way::Machine(Realisation::Events(events)) => folder.write_script(files, path, events),
         Way::Machine(Realisation::NoMemory) => Err(Fault::OutOfMemory),
         Way::Machine(Realisation::Limit | Realisation::Unrealised) => {
             Err(folder.without_script(files, Destination::Outcome(number)))
         }
-        Way::ModelAlone(trace) | Way::Model(trace) => put_trace(folder, files, path, trace),
-    }
-}
-
-fn put_trace<'a, F: Files>(
-    folder: Folder<'a>,
-    files: &mut F,
-    path: &str,
-    trace: &Trace,
-) -> Result<(), Fault<'a>>
-    requires { IsTrace trace.now.history }
-    ensures kept { OnOk result (HoldsTrace (F.held files.new) path.now trace.now.history) }
-    ensures told { IfErr result (IsFolderFault folder.entry.name) }
-    ensures others { (other : List ℕ) → other ≢ path.now → F.held files.new other ≡ F.held files.old other }
-{
-    let mut bytes = Vec::new(folder.alloc);
-    // Only memory can be wanting.
-    if let Err(error) = write_trace(trace, &mut bytes) {
-        return Err(Fault::making(folder.name, error));
-    }
-    match files.write(path, bytes.as_slice()) {
-        Ok(()) => Ok(()),
-        Err(error) => Err(folder.without_file(files, path, error)),
+        Way::ModelAlone(trace) | Way::Model(trace) => folder.write_trace(files, path, trace),
     }
 }

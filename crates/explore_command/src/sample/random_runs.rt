@@ -8,7 +8,7 @@ ghost use Rattle.explorer.specs.Ends.{outcome_of};
 ghost use Rattle.flat_model.specs.Shown.{told};
 
 use crate::findings::Findings;
-use crate::keeping::{Folder, Keepable};
+use crate::keeping::{Folder, Keepable, keep_outcomes};
 use command_files::{Fault, Files};
 use exploration_text::{harts_text, sampled_text};
 use explorer::{Found, Sampled};
@@ -87,6 +87,6 @@ impl Keepable for Runs {
     ghost IsFileOf = { λ r. IsOutcomeScript (length r.sampled.ends.items) };
 
     fn keep_in<'a, F: Files>(&self, folder: Folder<'a>, files: &mut F) -> Result<(), Fault<'a>> {
-        folder.keep_outcomes(files, &self.sampled.ends)
+        keep_outcomes(folder, files, &self.sampled.ends)
     }
 }

@@ -10,7 +10,7 @@ ghost use Rattle.explorer.specs.Ends.{outcome_of};
 ghost use Rattle.flat_model.specs.Shown.{told};
 
 use crate::findings::Findings;
-use crate::keeping::{Folder, Keepable};
+use crate::keeping::{Folder, Keepable, keep_exploration};
 use command_files::{Fault, Files};
 use elf_symbols::Symbols;
 use exploration_text::{WordName, end_text, text_of};
@@ -89,6 +89,6 @@ impl Keepable for Shown<'_> {
     ghost IsFileOf = { λ s. IsScriptOf (length s.exploration.outcomes.items) (length s.exploration.failures.items) s.exploration.stuck };
 
     fn keep_in<'a, F: Files>(&self, folder: Folder<'a>, files: &mut F) -> Result<(), Fault<'a>> {
-        folder.keep(files, &self.exploration)
+        keep_exploration(folder, files, &self.exploration)
     }
 }

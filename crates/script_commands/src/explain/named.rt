@@ -1,6 +1,7 @@
 //! An image, and the names that its file has for addresses.
 
 ghost use Rattle.std.specs.Prelude.{◌≡◌, IfErr, IfOk};
+ghost use Rattle.command_files.specs.Contents.{HoldsBytes};
 ghost use Rattle.command_files.specs.Faults.{IsImageFault};
 ghost use Rattle.command_files.specs.Files.{HoldsImage};
 ghost use Rattle.command_files.specs.declared.fault.Fault.TheVariants.{OutOfMemory};
@@ -47,8 +48,35 @@ pub fn named_image_in<'a, F: Files>(
     ensures loaded { IfOk result (λ read. HoldsImage (F.held files.old) is_raw name.entry.now kib read.image) }
     ensures stays { F.held files.new ≡ F.held files.old }
 {
+    let read = image_file_in(alloc, files, is_raw, name, kib)?;
+    Ok(read.named)
+}
+
+/// A file with an image, and the image.
+#[derive(Drop)]
+pub struct ImageFile {
+    pub bytes: Vec<u8>,
+    pub named: NamedImage,
+}
+
+/// The same with the bytes of the file, which is read once.
+pub fn image_file_in<'a, F: Files>(
+    alloc: Global,
+    files: &mut F,
+    is_raw: bool,
+    name: &'a str,
+    kib: u32,
+) -> Result<ImageFile, Fault<'a>>
+    requires { IsMemoryKib kib }
+    ensures fault { IfErr result (IsImageFault (F.held files.old) is_raw name.entry kib) }
+    ensures bytes { IfOk result (λ read. HoldsBytes (F.held files.old) name.entry.now read.bytes.items) }
+    ensures image { IfOk result (λ read. HoldsNamedImage (F.held files.old) is_raw name.entry.now kib read.named.image read.named.names) }
+    ensures loaded { IfOk result (λ read. HoldsImage (F.held files.old) is_raw name.entry.now kib read.named.image) }
+    ensures stays { F.held files.new ≡ F.held files.old }
+{
     let bytes = contents(alloc, files, name)?;
     let image = image_of(alloc, files, is_raw, name, bytes.as_slice(), kib)?;
     let names = names_of(alloc, is_raw, bytes.as_slice())?;
-    Ok(NamedImage { image, names })
+    let named = NamedImage { image, names };
+    Ok(ImageFile { bytes, named })
 }

@@ -1,9 +1,9 @@
 use Rattle.std.proofs.Common.{◌≡◌, ◌∙◌, List, refl, subst}
 use Rattle.command_files.specs.Faults.{Name}
-use Rattle.explore_command.specs.Targets.{AreAddressesOf, names_of}
+use Rattle.search_files.specs.Targets.{AreAddressesOf, names_of}
 use Rattle.command_files.proofs.Left.{handed_up, image_as_before, image_is_not_write}
-use Rattle.fences_command.proofs.Told.{allow_is_not_write, of_allow, of_file, of_image, of_target, of_words, target_is_not_write, words_are_not_write}
-use Rattle.fences_command.specs.Keeping.{IsTarget}
+use Rattle.fences_command.proofs.Told.{allow_is_not_write, of_allow, of_file, of_image, of_program, of_runs, of_words, unmade_is_not_write, words_are_not_write}
+use Rattle.fences_command.proofs.Readable.{readable}
 use Rattle.fences_command.proofs.fencing.audit_in.Goals as goal
 
 pub returns-in_err-allowed-clause-told : goal.returns-in_err-allowed-clause-told
@@ -38,17 +38,21 @@ returns-in_err-targets-clause-unprinted g c =
     handed_up _ c.from_residual-in_err-targets.result _ c.from_residual-in_err-targets.ensures.1
     (words_are_not_write c.in_ok-named.named.image c.in_ok-named.named.names _ _ c.in_err-targets.ensures.told)
 
-pub returns-in_err-target-clause-told : goal.returns-in_err-target-clause-told
-returns-in_err-target-clause-told g c =
-    handed_up _ c.from_residual-in_err-target.result _ c.from_residual-in_err-target.ensures.1 (of_target (g.F.Files.held c.args.files.now) c.args.wanted.now _ c.in_err-target.ensures.told)
+pub returns-in_err-check_target-clause-told : goal.returns-in_err-check_target-clause-told
+returns-in_err-check_target-clause-told g c =
+    handed_up _ c.from_residual-in_err-check_target.result _ c.from_residual-in_err-check_target.ensures.1 (of_program (g.F.Files.held c.args.files.now) c.args.wanted.now _ c.in_err-check_target.ensures.told)
 
-pub returns-in_err-target-clause-unprinted : goal.returns-in_err-target-clause-unprinted
-returns-in_err-target-clause-unprinted g c =
-    handed_up _ c.from_residual-in_err-target.result _ c.from_residual-in_err-target.ensures.1 (target_is_not_write (g.F.Files.held c.args.files.now) c.args.wanted.now _ c.in_err-target.ensures.told)
+pub returns-in_err-check_target-clause-unprinted : goal.returns-in_err-check_target-clause-unprinted
+returns-in_err-check_target-clause-unprinted g c =
+    handed_up _ c.from_residual-in_err-check_target.result _ c.from_residual-in_err-check_target.ensures.1 (unmade_is_not_write c.args.wanted.now.fences.write _ c.in_err-check_target.ensures.told)
 
-pub returns-clause-target : goal.returns-clause-target
-returns-clause-target g c =
-    subst (λ h. IsTarget h c.args.wanted.now.fences c.in_ok-target.target) (c.in_ok-named.ensures.stays ∙ c.in_ok-allowed.ensures.stays) c.in_ok-target.ensures.target
+pub returns-in_err-check_folder-clause-told : goal.returns-in_err-check_folder-clause-told
+returns-in_err-check_folder-clause-told g c =
+    handed_up _ c.from_residual-in_err-check_folder.result _ c.from_residual-in_err-check_folder.ensures.1 (of_runs (g.F.Files.held c.args.files.now) c.args.wanted.now _ c.in_err-check_folder.ensures.told)
+
+pub returns-in_err-check_folder-clause-unprinted : goal.returns-in_err-check_folder-clause-unprinted
+returns-in_err-check_folder-clause-unprinted g c =
+    handed_up _ c.from_residual-in_err-check_folder.result _ c.from_residual-in_err-check_folder.ensures.1 (unmade_is_not_write c.args.wanted.now.fences.scripts _ c.in_err-check_folder.ensures.told)
 
 pub returns-clause-of_file : goal.returns-clause-of_file
 returns-clause-of_file g c =

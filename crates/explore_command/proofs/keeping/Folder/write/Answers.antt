@@ -1,8 +1,0 @@
-use Rattle.explore_command.proofs.Kept.{on_ok, script_held}
-use Rattle.explore_command.proofs.keeping.Folder.write.Goals as goal
-
-pub returns-clause-kept : goal.returns-clause-kept
-returns-clause-kept g c =
-    on_ok _ _ c.put.result
-    (script_held _ _ c.args.self.now.config c.args.self.now.kib _ _ _ c.script_of-script.ensures.script c.in-Ok.ensures c.requires c.script_of-script.ensures.events)
-    c.put.ensures.kept

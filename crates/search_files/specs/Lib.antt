@@ -1,0 +1,5 @@
+pub mod Faults
+pub mod Folders
+pub mod Targets
+pub use Rattle.exploration_text.specs.declared.wording.WordName
+pub use Rattle.script_commands.specs.Named

@@ -1,0 +1,113 @@
+//! The words of memory that are to be shown: what they are called, and where they lie.
+
+ghost use Rattle.std.specs.Prelude.{◌≡◌, ◌++◌, IfErr, IfOk, OnOk, Some, map};
+ghost use Rattle.search_files.specs.Targets.{AreAddressesOf, IsUnplaced, IsUnshown, name_of, names_of, place_of};
+ghost use Rattle.performed_words.specs.Words.{CanShow, CanShowEach};
+
+use command_files::{Fault, Unshown};
+use elf_loader::Image;
+use elf_symbols::Symbols;
+use exploration_text::WordName;
+use performed_words::can_show;
+use script_commands::address_in;
+use std::alloc::{AllocError, Global};
+
+/// What lines call the words, and where they lie, both in the order of their asking.
+#[derive(Drop)]
+pub struct Targets<'a> {
+    pub names: Vec<WordName<'a>>,
+    pub addresses: Vec<u32>,
+}
+
+/// What a line calls the word that was given so: what is a number is an address, and all else a symbol.
+fn name_of<'a>(word: &'a str) -> WordName<'a>
+    ensures { result ≡ name_of word.entry }
+{
+    match address_in(word.as_bytes()) {
+        Some(address) => WordName::Address(address),
+        None => WordName::Symbol(word),
+    }
+}
+
+/// Where the word lies that is called so.
+fn place_of(symbols: &Symbols, name: &WordName<'_>) -> Option<u32>
+    ensures { result ≡ place_of symbols.now name.now }
+{
+    match name {
+        WordName::Symbol(symbol) => symbols.address_of(symbol.as_bytes()),
+        WordName::Address(address) => Some(*address),
+    }
+}
+
+/// Where the word lies that was given so, if it can be shown.
+fn shown_at<'a>(image: &Image, symbols: &Symbols, word: &'a str) -> Result<u32, Fault<'a>>
+    ensures placed { IfOk result (λ address. place_of symbols.now (name_of word.entry) ≡ Some address) }
+    ensures inside { IfOk result (CanShow image.now) }
+    ensures told { IfErr result (IsUnplaced image.now symbols.now word.entry) }
+{
+    let Some(address) = place_of(symbols, &name_of(word)) else {
+        let cause = Unshown::NoSymbol;
+        return Err(Fault::CannotShow { word, cause });
+    };
+    if !can_show(image, address) {
+        let cause = Unshown::NoWord;
+        return Err(Fault::CannotShow { word, cause });
+    }
+    Ok(address)
+}
+
+/// Where the words lie, in their order.
+fn places_of<'a>(
+    alloc: Global,
+    image: &Image,
+    symbols: &Symbols,
+    words: &[&'a str],
+) -> Result<Vec<u32>, Fault<'a>>
+    ensures placed { IfOk result (λ addresses. AreAddressesOf symbols.now words.now addresses.items) }
+    ensures inside { IfOk result (λ addresses. CanShowEach image.now addresses.items) }
+    ensures told { IfErr result (IsUnshown image.now symbols.now words.now) }
+{
+    let mut addresses = Vec::new(alloc);
+    let mut rest = words;
+    while let [first, tail @ ..] = rest {
+        let address = shown_at(image, symbols, first)?;
+        let Ok(()) = addresses.push(address) else {
+            return Err(Fault::OutOfMemory);
+        };
+        rest = tail;
+    }
+    Ok(addresses)
+}
+
+/// What lines call the words, in their order.
+fn labels_of<'a>(alloc: Global, words: &[&'a str]) -> Result<Vec<WordName<'a>>, AllocError>
+    ensures { IfOk result (λ names. names.items ≡ names_of words.now) }
+{
+    let mut names = Vec::new(alloc);
+    let mut rest = words;
+    while let [first, tail @ ..] = rest {
+        names.push(name_of(first))?;
+        rest = tail;
+    }
+    Ok(names)
+}
+
+/// The words that are to be shown, if all of them can. Else the error is that the first that can't be is none of the
+/// image's symbols, or that no aligned word of memory lies there; or that there was no memory.
+pub fn targets_of<'a>(
+    alloc: Global,
+    image: &Image,
+    symbols: &Symbols,
+    words: &[&'a str],
+) -> Result<Targets<'a>, Fault<'a>>
+    ensures names { IfOk result (λ targets. targets.names.items ≡ names_of words.now) }
+    ensures placed { IfOk result (λ targets. AreAddressesOf symbols.now words.now targets.addresses.items) }
+    ensures inside { IfOk result (λ targets. CanShowEach image.now targets.addresses.items) }
+    ensures told { IfErr result (IsUnshown image.now symbols.now words.now) }
+{
+    let addresses = places_of(alloc, image, symbols, words)?;
+    let Ok(names) = labels_of(alloc, words) else {
+        return Err(Fault::OutOfMemory);
+    };
+    Ok(Targets { names, addresses })
+}
