@@ -4,6 +4,7 @@ use Rattle.litmus_answers.specs.Faults.{IsFault, MakesNoProgram}
 use Rattle.litmus_answers.specs.Layouts.{IsLayout}
 use Rattle.litmus_answers.specs.declared.layout.Layout.{Layout}
 use Rattle.litmus_command.specs.Answers.{AnswersTest, IsAnswer, IsHalt, IsSearch}
+use Rattle.litmus_command.specs.Files.{File}
 use Rattle.litmus_command.specs.Ended.{IsStop, IsTrouble, TellsStop}
 use Rattle.litmus_command.specs.Programs.{IsNoProgram, IsProgram}
 use Rattle.litmus_command.specs.States.{IsStopIn}
@@ -35,9 +36,9 @@ no_program bytes w test (At cause left) (trouble.Text line why found) is of faul
 no_program bytes w test (At cause left) (trouble.Halts halt) is of fault = absurd is
 
 -- they are a test that was answered
-pub is_answered : (bytes : List ℕ) (test : Test) (layout : Layout) (w : Wishes) (text : List ℕ) (is_proved : Bool) → test_in bytes ≡ Ok (meaning test) → IsLayout (meaning test) layout → IsAnswer test layout w text is_proved
-    → AnswersTest bytes w text is_proved
-is_answered bytes test layout w text is_proved of laid answer = record { test = test; is_test = of; layout = layout; is_layout = laid; is_answer = answer }
+pub is_answered : (bytes : List ℕ) (test : Test) (layout : Layout) (w : Wishes) (text : List ℕ) (is_proved : Bool) (files : List File) → test_in bytes ≡ Ok (meaning test) → IsLayout (meaning test) layout → IsAnswer test layout w text is_proved files
+    → AnswersTest bytes w text is_proved files
+is_answered bytes test layout w text is_proved files of laid answer = record { test = test; is_test = of; layout = layout; is_layout = laid; is_answer = answer }
 
 -- they are a test that isn't answered
 pub is_halted : (bytes : List ℕ) (test : Test) (layout : Layout) (w : Wishes) (why : Halt) → test_in bytes ≡ Ok (meaning test) → IsLayout (meaning test) layout → IsHalt test layout w why → IsTrouble bytes w (trouble.Halts why)

@@ -1,13 +1,15 @@
 -- How files end, one by one.
-use Rattle.std.proofs.Common.{◌≡◌, ℕ, Bool, true, false, List, [], Option, Some, None, Err, inl, inr, refl, subst, sym}
+use Rattle.std.proofs.Common.{◌≡◌, ℕ, Bool, true, false, List, [], ◌++◌, Option, Some, None, Err, inl, inr, refl, subst, sym}
 use Rattle.std.specs.Prelude.{IsSome, is_none, if◌then◌else◌}
 use Rattle.std.specs.Io.KnownBytes.{Appends}
 use Rattle.std.proofs.lemmas.Bool.{false≢true}
+use Rattle.std.proofs.lemmas.List.{append-nil}
 use Rattle.command_files.specs.Contents.{Contents, HoldsBytes}
 use Rattle.litmus_answers.proofs.Faults.{is_fault}
 use Rattle.litmus_command.specs.Answers.{AnswersTest}
 use Rattle.litmus_command.specs.Comparing.{AreLogs, Logged, as_logged, logged}
-use Rattle.litmus_command.specs.Ended.{Ends, IsAnswered, IsEnd, IsHeldBack, IsPrinted, IsRefused, IsSent, IsStop, IsTrouble, IsUnread, HasOther, is_other}
+use Rattle.litmus_command.specs.Files.{File}
+use Rattle.litmus_command.specs.Ended.{Ends, IsAnswered, IsEnd, IsGiven, IsHeldBack, IsPrinted, IsRefused, IsSent, IsStop, IsTrouble, IsUnread, HasOther, is_other}
 use Rattle.litmus_command.specs.Waiting.{are_named}
 use Rattle.litmus_command.specs.Wishes.{Wishes, are_compared}
 use Rattle.litmus_command.specs.declared.logs.Logs.{Logs}
@@ -55,20 +57,24 @@ stop_of bytes cause left (inl e) none = e
 stop_of bytes cause left (inr made) none = absurd (false≢true (subst (λ (fault : Option Fault). IsSome fault) none (is_fault made.0 cause left made.2)))
 
 module _ (held : Contents) (w : Wishes) (name : List ℕ) where
-  quietly : (old : Option (List ℕ)) (e : Ended) → IsEnd held w name e [] → Ends held w name old old e
-  quietly old e is = record { sent = []; is_end = is; went = appends_none old }
+  quietly : (old : Option (List ℕ)) (kept : List File) (e : Ended) → IsEnd held w name e [] [] → Ends held w name old old kept kept e
+  quietly old kept e is = record { sent = []; files = []; is_end = is; went = appends_none old; kept = sym (append-nil kept) }
 
   -- nothing goes out of a file that can't be read
-  pub unread_end : (e : Ended) → IsUnread e → IsEnd held w name e []
+  pub unread_end : (e : Ended) → IsUnread e → IsEnd held w name e [] []
   unread_end (Answered is_proved) is = absurd is
   unread_end (Differs is_proved) is = absurd is
   unread_end Skipped is = absurd is
-  unread_end Failed is = refl
+  unread_end Failed is = (refl, refl)
   unread_end Closed is = absurd is
   unread_end NoMemory is = refl
 
-  pub unread : (old : Option (List ℕ)) (e : Ended) → IsUnread e → Ends held w name old old e
-  unread old e is = quietly old e (unread_end e is)
+  pub unread : (old : Option (List ℕ)) (kept : List File) (e : Ended) → IsUnread e → Ends held w name old old kept kept e
+  unread old kept e is = quietly old kept e (unread_end e is)
+
+  -- an answer was found, and there was no memory for what explains it
+  unkept : (old : Option (List ℕ)) (kept : List File) → Ends held w name old old kept kept NoMemory
+  unkept old kept = quietly old kept NoMemory refl
 
   other : (bytes : List ℕ) (why : Trouble) → HoldsBytes held name bytes → IsTrouble bytes w why → is_other why ≡ true → HasOther held name
   other bytes (trouble.Text line cause found) holds is skipped =
@@ -77,37 +83,47 @@ module _ (held : Contents) (w : Wishes) (name : List ℕ) where
   other bytes (trouble.Halts halt) holds is skipped = absurd cc
 
   -- nothing goes out of one that has no test
-  pub refused : (bytes : List ℕ) (old : Option (List ℕ)) (why : Trouble) (e : Ended) → HoldsBytes held name bytes → IsTrouble bytes w why → IsRefused why e → Ends held w name old old e
-  refused bytes old why (Answered is_proved) holds is so = absurd so
-  refused bytes old why (Differs is_proved) holds is so = absurd so
-  refused bytes old why Skipped holds is so = quietly old Skipped (other bytes why holds is so, refl)
-  refused bytes old why Failed holds is so = quietly old Failed refl
-  refused bytes old why Closed holds is so = absurd so
-  refused bytes old why NoMemory holds is so = quietly old NoMemory refl
+  pub refused : (bytes : List ℕ) (old : Option (List ℕ)) (kept : List File) (why : Trouble) (e : Ended) → HoldsBytes held name bytes → IsTrouble bytes w why → IsRefused why e → Ends held w name old old kept kept e
+  refused bytes old kept why (Answered is_proved) holds is so = absurd so
+  refused bytes old kept why (Differs is_proved) holds is so = absurd so
+  refused bytes old kept why Skipped holds is so = quietly old kept Skipped (other bytes why holds is so, (refl, refl))
+  refused bytes old kept why Failed holds is so = quietly old kept Failed (refl, refl)
+  refused bytes old kept why Closed holds is so = absurd so
+  refused bytes old kept why NoMemory holds is so = quietly old kept NoMemory refl
 
   held_back : (logs : Logged) (text : List ℕ) (compared : Bool) → AreLogs held w logs → (compared ≡ true → as_logged logs text ≡ true) → IsHeldBack held w compared text (if compared then [] else text)
   held_back logs text false are same = refl
   held_back logs text true are same = (record { logs = logs; are_logs = are; judged = same refl }, refl)
 
   -- an answer to the test that the file's bytes say went out, or was held back, or can't go out
-  pub printed : (logs : Logged) (text : List ℕ) (is_proved : Bool) (old new : Option (List ℕ)) (e : Ended) → AreLogs held w logs → IsAnswered held w name text is_proved → IsPrinted logs (are_compared w) text is_proved old new e
-      → Ends held w name old new e
-  printed logs text is_proved old new (Answered told) are answered is = record {
+  pub printed : (logs : Logged) (text : List ℕ) (is_proved : Bool) (files before after : List File) (old new : Option (List ℕ)) (e : Ended) → AreLogs held w logs → IsAnswered held w name text is_proved files → after ≡ before ++ files → IsPrinted logs (are_compared w) text is_proved old new e
+      → Ends held w name old new before after e
+  printed logs text is_proved files before after old new (Answered told) are answered more is = record {
     sent = if are_compared w then [] else text;
-    is_end = (text, subst (IsAnswered held w name text) (sym is.0) answered, held_back logs text (are_compared w) are is.1);
+    files = files;
+    kept = more;
+    is_end = (text, subst (λ (b : Bool). IsAnswered held w name text b files) (sym is.0) answered, held_back logs text (are_compared w) are is.1);
     went = is.2;
   }
-  printed logs text is_proved old new (Differs told) are answered is = record {
+  printed logs text is_proved files before after old new (Differs told) are answered more is = record {
     sent = text;
-    is_end = (subst (IsAnswered held w name text) (sym is.0) answered, is.1, record { logs = logs; are_logs = are; judged = is.2 });
+    files = files;
+    kept = more;
+    is_end = (subst (λ (b : Bool). IsAnswered held w name text b files) (sym is.0) answered, is.1, record { logs = logs; are_logs = are; judged = is.2 });
     went = is.3;
   }
-  printed logs text is_proved old new Skipped are answered is = absurd is
-  printed logs text is_proved old new Failed are answered is = absurd is
-  printed logs text is_proved old new Closed are answered is = record { sent = is.front; is_end = (text, is_proved, answered, (is.rest, is.parts)); went = is.sent }
-  printed logs text is_proved old new NoMemory are answered is = record { sent = []; is_end = refl; went = subst (λ (n : Option (List ℕ)). Appends old n []) (sym is) (appends_none old) }
+  printed logs text is_proved files before after old new Skipped are answered more is = absurd is
+  printed logs text is_proved files before after old new Failed are answered more is = absurd is
+  printed logs text is_proved files before after old new Closed are answered more is = record { sent = is.front; files = files; kept = more; is_end = (text, is_proved, files, answered, (is.rest, is.parts)); went = is.sent }
+  printed logs text is_proved files before after old new NoMemory are answered more is = record { sent = []; files = files; kept = more; is_end = refl; went = subst (λ (n : Option (List ℕ)). Appends old n []) (sym is) (appends_none old) }
 
-  pub answered : (logs : Logs) (bytes text : List ℕ) (is_proved : Bool) (old new : Option (List ℕ)) (e : Ended) → AreLogs held w (logged logs) → HoldsBytes held name bytes → AnswersTest bytes w text is_proved
-      → IsPrinted (logged logs) (are_named logs) text is_proved old new e → Ends held w name old new e
-  answered logs bytes text is_proved old new e are holds answer is =
-      printed (logged logs) text is_proved old new e are (bytes, holds, answer) (subst (λ c. IsPrinted (logged logs) c text is_proved old new e) (as_named held w logs are) is)
+  given : (logs : Logged) (text : List ℕ) (is_proved : Bool) (files before after : List File) (old new : Option (List ℕ)) (e : Ended) → AreLogs held w logs → IsAnswered held w name text is_proved files → IsGiven logs (are_compared w) text is_proved files old new before after e
+      → Ends held w name old new before after e
+  given logs text is_proved files before after old new e are answered (inl is) = printed logs text is_proved files before after old new e are answered is.1 is.0
+  given logs text is_proved files before after old new e are answered (inr is) =
+      subst (λ (n : Option (List ℕ)). Ends held w name old n before after e) (sym is.1) (subst (λ (l : List File). Ends held w name old old before l e) (sym is.2) (subst (Ends held w name old old before before) (sym is.0) (unkept old before)))
+
+  pub answered : (logs : Logs) (bytes text : List ℕ) (is_proved : Bool) (files before after : List File) (old new : Option (List ℕ)) (e : Ended) → AreLogs held w (logged logs) → HoldsBytes held name bytes → AnswersTest bytes w text is_proved files
+      → IsGiven (logged logs) (are_named logs) text is_proved files old new before after e → Ends held w name old new before after e
+  answered logs bytes text is_proved files before after old new e are holds answer is =
+      given (logged logs) text is_proved files before after old new e are (bytes, holds, answer) (subst (λ c. IsGiven (logged logs) c text is_proved files old new before after e) (as_named held w logs are) is)

@@ -1,8 +1,10 @@
 pub mod Adding
 pub mod Answering
 pub mod Ends
+pub mod Explained
 pub mod Finding
 pub mod Fitting
+pub mod Kept
 pub mod Lines
 pub mod Logged
 pub mod Machine

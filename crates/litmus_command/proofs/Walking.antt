@@ -1,6 +1,6 @@
 -- Names taken one after another.
 use Rattle.std.proofs.Common.{◌≡◌, ◌⊎◌, ◌∙◌, ◌≤◌, ◌<◌, ◌+◌, ◌≢◌, ℕ, Bool, true, false, List, [], ◌∷◌, ◌++◌, Option, Some, None, ap, ap₂, arith, inl, inr, length, nat_lt, refl, subst, sym}
-use Rattle.std.specs.Prelude.{◌||◌, String, reverse, string_bytes}
+use Rattle.std.specs.Prelude.{◌||◌, String, is_some, reverse, string_bytes}
 use Rattle.std.specs.Global.{Global}
 use Rattle.std.specs.Io.KnownBytes.{Appends, Keeps}
 use Rattle.std.proofs.lemmas.Bool.{false≢true}
@@ -9,9 +9,10 @@ use Rattle.std.proofs.lemmas.List.{append-nil, length-append, length-map, length
 use Rattle.std.proofs.lemmas.List.Folds.{list_any-append}
 use Rattle.command_files.specs.Contents.{Contents}
 use Rattle.litmus_command.specs.Ended.{Ends, IsUnread, final_status, is_closed, is_cut, is_differing, is_failed, is_starved, status_by}
-use Rattle.litmus_command.specs.Line.{AllPassed, AreAnswered, AreCounted, AreCut, AreTooMany, Came, EndsWith, HasFault, HasStarved, IsTaken, IsUnderWay, Walks, all_sent, are_left, ended_as, has, is_list, sent_of}
+use Rattle.litmus_command.specs.Line.{AllPassed, AreAnswered, AreCounted, AreCut, AreTooMany, Came, EndsWith, HasFault, HasStarved, IsTaken, IsUnderWay, Walks, all_explained, all_sent, are_left, ended_as, explained_by, has, sent_of}
 use Rattle.litmus_command.specs.Line.Came.{ended, listed}
-use Rattle.litmus_command.specs.Listing.{texts_of}
+use Rattle.litmus_command.specs.Files.{File}
+use Rattle.litmus_command.specs.Listing.{is_list, texts_of}
 use Rattle.litmus_command.specs.Waiting.{GoesOn, HasNames, IsCut, Takes, TellsHow, waiting}
 use Rattle.litmus_command.specs.Wishes.{Wishes, are_compared}
 use Rattle.litmus_command.specs.declared.ended.Counts.{Counts}
@@ -53,17 +54,18 @@ module _ (held : Contents) (w : Wishes) (name : List ℕ) (before : List (List �
   not_list e file is = absurd (false≢true (sym file ∙ is))
 
   -- a file
-  pub took_file : (old new : Option (List ℕ)) (e : Ended) → is_list name ≡ false → Ends held w name old new e → Takes held w name before lists old new before lists (Some e)
-  took_file old new e file is = record {
-    what = ended e is.sent;
+  pub took_file : (old new : Option (List ℕ)) (kept kept' : List File) (e : Ended) → is_list name ≡ false → Ends held w name old new kept kept' e → Takes held w name before lists old new kept kept' before lists (Some e)
+  took_file old new kept kept' e file is = record {
+    what = ended e is.sent is.files;
     taken = record { is_end = is.is_end; of_list = not_list e file; others = refl; same = refl };
     went = is.went;
+    explained = is.kept;
     how = refl;
   }
 
   -- a list too many
-  pub took_none : (old : Option (List ℕ)) → Takes held w name before lists old old before lists (Some Failed)
-  took_none old = record { what = ended Failed []; taken = record { is_end = refl; of_list = λ is. refl; others = refl; same = refl }; went = appends_none old; how = refl }
+  pub took_none : (old : Option (List ℕ)) (kept : List File) → Takes held w name before lists old old kept kept before lists (Some Failed)
+  took_none old kept = record { what = ended Failed [] []; taken = record { is_end = (refl, refl); of_list = λ is. refl; others = refl; same = refl }; went = appends_none old; explained = sym (append-nil kept); how = refl }
 
   unread_fails : (e : Ended) → IsUnread e → (is_failed e || is_cut e) ≡ true
   unread_fails (Answered is_proved) is = absurd is
@@ -74,41 +76,43 @@ module _ (held : Contents) (w : Wishes) (name : List ℕ) (before : List (List �
   unread_fails NoMemory is = refl
 
   -- a list that can't be read
-  pub took_unread : (old : Option (List ℕ)) (after : List (List ℕ)) (e : Ended) → IsUnread e → after ≡ before → Takes held w name before lists old old after lists (Some e)
-  took_unread old after e is same = record { what = ended e []; taken = record { is_end = unread_end held w name e is; of_list = λ at. unread_fails e is; others = same; same = refl }; went = appends_none old; how = refl }
+  pub took_unread : (old : Option (List ℕ)) (kept : List File) (after : List (List ℕ)) (e : Ended) → IsUnread e → after ≡ before → Takes held w name before lists old old kept kept after lists (Some e)
+  took_unread old kept after e is same = record { what = ended e [] []; taken = record { is_end = unread_end held w name e is; of_list = λ at. unread_fails e is; others = same; same = refl }; went = appends_none old; explained = sym (append-nil kept); how = refl }
 
   -- a list
-  pub took_list : (old : Option (List ℕ)) (list : List ℕ) (after : List (List ℕ)) (count : ℕ) → name ≡ 64 ∷ list → HasNames held list before after → lists < 1000 → count ≡ lists + 1 → Takes held w name before lists old old after count None
-  took_list old list after count is names few more = record {
+  pub took_list : (old : Option (List ℕ)) (kept : List File) (list : List ℕ) (after : List (List ℕ)) (count : ℕ) → name ≡ 64 ∷ list → HasNames held list before after → lists < 1000 → count ≡ lists + 1 → Takes held w name before lists old old kept kept after count None
+  took_list old kept list after count is names few more = record {
     what = listed names.0;
     taken = record { list = list; is_name = is; holds = names.1; names = names.2; few = few; counted = more };
     went = appends_none old;
+    explained = sym (append-nil kept);
     how = tt;
   }
 
   -- ---- how it goes on
 
-  module _ (old new : Option (List ℕ)) (after : List (List ℕ)) (count : ℕ) where
+  module _ (old new : Option (List ℕ)) (kept kept' : List File) (after : List (List ℕ)) (count : ℕ) where
     listed_is : (c : Came) → TellsHow None c → (text : List ℕ) × (c ≡ listed text)
     listed_is (listed text) how = (text, refl)
-    listed_is (ended e sent) how = absurd how
+    listed_is (ended e sent files) how = absurd how
 
-    ended_is : (e : Ended) (c : Came) → TellsHow (Some e) c → (sent : List ℕ) × (c ≡ ended e sent)
+    ended_is : (e : Ended) (c : Came) → TellsHow (Some e) c → (sent : List ℕ) × ((files : List File) × (c ≡ ended e sent files))
     ended_is e (listed text) how = absurd how
-    ended_is e (ended told sent) how = (sent, ap (λ (x : Ended). ended x sent) how)
+    ended_is e (ended told sent files) how = (sent, (files, ap (λ (x : Ended). ended x sent files) how))
 
     or_no : (b : Bool) → b ≡ (b || false)
     or_no true = refl
     or_no false = refl
 
     -- a list was read
-    pub goes_on_listed : (counts : Counts) → Takes held w name before lists old new after count None → GoesOn held w name before lists counts old new after count counts
+    pub goes_on_listed : (counts : Counts) → Takes held w name before lists old new kept kept' after count None → GoesOn held w name before lists counts old new kept kept' after count counts
     goes_on_listed counts took =
         let is = listed_is took.what took.how in
         record {
           what = took.what;
           taken = took.taken;
           went = took.went;
+          explained = took.explained;
           uncut = ap (ended_as is_cut) is.1;
           failed = or_no _ ∙ ap (λ (c : Came). nat_lt 0 counts.failed || ended_as is_failed c) (sym is.1);
           differing = or_no _ ∙ ap (λ (c : Came). nat_lt 0 counts.differing || ended_as is_differing c) (sym is.1);
@@ -123,30 +127,31 @@ module _ (held : Contents) (w : Wishes) (name : List ℕ) (before : List (List �
     stays_on NoMemory is = absurd cc
 
     -- a file's end is counted
-    pub goes_on_ended : (counts counts' : Counts) (e : Ended) → Takes held w name before lists old new after count (Some e) → final_status e ≡ None
+    pub goes_on_ended : (counts counts' : Counts) (e : Ended) → Takes held w name before lists old new kept kept' after count (Some e) → final_status e ≡ None
         → nat_lt 0 counts'.failed ≡ (nat_lt 0 counts.failed || is_failed e) → nat_lt 0 counts'.differing ≡ (nat_lt 0 counts.differing || is_differing e)
-        → GoesOn held w name before lists counts old new after count counts'
+        → GoesOn held w name before lists counts old new kept kept' after count counts'
     goes_on_ended counts counts' e took on failed differing =
         let is = ended_is e took.what took.how in
         record {
           what = took.what;
           taken = took.taken;
           went = took.went;
-          uncut = ap (ended_as is_cut) is.1 ∙ stays_on e on;
-          failed = failed ∙ ap (λ (c : Came). nat_lt 0 counts.failed || ended_as is_failed c) (sym is.1);
-          differing = differing ∙ ap (λ (c : Came). nat_lt 0 counts.differing || ended_as is_differing c) (sym is.1);
+          explained = took.explained;
+          uncut = ap (ended_as is_cut) is.1.1 ∙ stays_on e on;
+          failed = failed ∙ ap (λ (c : Came). nat_lt 0 counts.failed || ended_as is_failed c) (sym is.1.1);
+          differing = differing ∙ ap (λ (c : Came). nat_lt 0 counts.differing || ended_as is_differing c) (sym is.1.1);
         }
 
-    ends_so : (e : Ended) (sent : List ℕ) (status : ℕ) → final_status e ≡ Some status → ((status ≡ 1) × (ended_as is_closed (ended e sent) ≡ true)) ⊎ ((status ≡ 4) × (ended_as is_starved (ended e sent) ≡ true))
-    ends_so (Answered is_proved) sent status is = absurd cc
-    ends_so (Differs is_proved) sent status is = absurd cc
-    ends_so Skipped sent status is = absurd cc
-    ends_so Failed sent status is = absurd cc
-    ends_so Closed sent status is = let one : status ≡ 1 = cc in inl (one, refl)
-    ends_so NoMemory sent status is = let four : status ≡ 4 = cc in inr (four, refl)
+    ends_so : (e : Ended) (sent : List ℕ) (files : List File) (status : ℕ) → final_status e ≡ Some status → ((status ≡ 1) × (ended_as is_closed (ended e sent files) ≡ true)) ⊎ ((status ≡ 4) × (ended_as is_starved (ended e sent files) ≡ true))
+    ends_so (Answered is_proved) sent files status is = absurd cc
+    ends_so (Differs is_proved) sent files status is = absurd cc
+    ends_so Skipped sent files status is = absurd cc
+    ends_so Failed sent files status is = absurd cc
+    ends_so Closed sent files status is = let one : status ≡ 1 = cc in inl (one, refl)
+    ends_so NoMemory sent files status is = let four : status ≡ 4 = cc in inr (four, refl)
 
     -- it ends the command
-    pub cut_by : (e : Ended) (status : ℕ) → Takes held w name before lists old new after count (Some e) → final_status e ≡ Some status → IsCut held w name before lists old new status
+    pub cut_by : (e : Ended) (status : ℕ) → Takes held w name before lists old new kept kept' after count (Some e) → final_status e ≡ Some status → IsCut held w name before lists old new status
     cut_by e status took is =
         let came = ended_is e took.what took.how in
         record {
@@ -155,7 +160,7 @@ module _ (held : Contents) (w : Wishes) (name : List ℕ) (before : List (List �
           count = count;
           taken = took.taken;
           went = took.went;
-          of_cause = subst (λ (c : Came). ((status ≡ 1) × (ended_as is_closed c ≡ true)) ⊎ ((status ≡ 4) × (ended_as is_starved c ≡ true))) (sym came.1) (ends_so e came.0 status is);
+          of_cause = subst (λ (c : Came). ((status ≡ 1) × (ended_as is_closed c ≡ true)) ⊎ ((status ≡ 4) × (ended_as is_starved c ≡ true))) (sym came.1.1) (ends_so e came.0 came.1.0 status is);
         }
 
 -- ---- all names
@@ -171,6 +176,9 @@ module _ (held : Contents) (w : Wishes) where
 
   one_sent : (c : Came) → all_sent (c ∷ []) ≡ sent_of c
   one_sent c = append-nil (sent_of c)
+
+  more_explained : (kept kept' : List File) (cames : List Came) (c : Came) → kept ≡ all_explained cames → kept' ≡ kept ++ explained_by c → kept' ≡ all_explained (cames ++ c ∷ [])
+  more_explained kept kept' cames c so now = now ∙ ap₂ (λ (x y : List File). x ++ y) so (sym (append-nil (explained_by c))) ∙ sym (flat_map-append explained_by cames (c ∷ []))
 
   has_one : (test : Ended → Bool) (c : Came) → has test (c ∷ []) ≡ ended_as test c
   has_one test c = go (ended_as test c)
@@ -192,17 +200,18 @@ module _ (held : Contents) (w : Wishes) where
         subst (Appends first new) (ap (λ (l : List ℕ). all_sent cames ++ l) (sym (one_sent c)) ∙ sym (flat_map-append sent_of cames (c ∷ []))) (appends_then first old new (all_sent cames) (sent_of c) so now)
 
     -- nothing was taken yet
-    pub begun : (counts : Counts) (left : List (List ℕ)) → left ≡ names → counts.failed ≡ 0 → counts.differing ≡ 0 → IsUnderWay held w names first first left 0 0 counts
-    begun counts left is failed differing = record { cames = []; walks = (is, refl); count = refl; sent = appends_none first; uncut = refl; failed = ap (nat_lt 0) failed; differing = ap (nat_lt 0) differing }
+    pub begun : (counts : Counts) (kept : List File) (left : List (List ℕ)) → left ≡ names → kept ≡ [] → counts.failed ≡ 0 → counts.differing ≡ 0 → IsUnderWay held w names first first kept left 0 0 counts
+    begun counts kept left is none failed differing = record { cames = []; walks = (is, refl); count = refl; sent = appends_none first; explained = none; uncut = refl; failed = ap (nat_lt 0) failed; differing = ap (nat_lt 0) differing }
 
     -- one more name was taken
-    pub further : (old new : Option (List ℕ)) (name : List ℕ) (at left next : List (List ℕ)) (taken lists n : ℕ) (counts counts' : Counts) → IsUnderWay held w names first old at taken lists counts → at ≡ name ∷ left
-        → GoesOn held w name left lists counts old new next n counts' → IsUnderWay held w names first new next (taken + 1) n counts'
-    further old new name at left next taken lists n counts counts' way is on = record {
+    pub further : (old new : Option (List ℕ)) (kept kept' : List File) (name : List ℕ) (at left next : List (List ℕ)) (taken lists n : ℕ) (counts counts' : Counts) → IsUnderWay held w names first old kept at taken lists counts → at ≡ name ∷ left
+        → GoesOn held w name left lists counts old new kept kept' next n counts' → IsUnderWay held w names first new kept' next (taken + 1) n counts'
+    further old new kept kept' name at left next taken lists n counts counts' way is on = record {
       cames = way.cames ++ on.what ∷ [];
       walks = walked_on names 0 way.cames name left lists on.what next n (subst (λ (a : List (List ℕ)). Walks held w names 0 way.cames a lists) is way.walks) on.taken;
       count = length-append way.cames (on.what ∷ []) ∙ ap (λ (n : ℕ). n + 1) way.count;
       sent = more_sent old new way.cames on.what way.sent on.went;
+      explained = more_explained kept kept' way.cames on.what way.explained on.explained;
       uncut = list_any-append (ended_as is_cut) way.cames (on.what ∷ []) ∙ ap₂ (λ (x y : Bool). x || y) way.uncut (has_one is_cut on.what ∙ on.uncut);
       failed = more_has is_failed way.cames on.what _ _ way.failed on.failed;
       differing = more_has is_differing way.cames on.what _ _ way.differing on.differing;
@@ -216,9 +225,9 @@ module _ (held : Contents) (w : Wishes) where
     ends_with cames c status (inr starved) = inr (starved.0, inl (last_has is_starved cames c starved.1))
 
     -- one ended the command
-    pub cut_off : (now : Contents) (old new : Option (List ℕ)) (name : List ℕ) (at left : List (List ℕ)) (taken lists : ℕ) (counts : Counts) (status : ℕ) → IsUnderWay held w names first old at taken lists counts → at ≡ name ∷ left → now ≡ held
+    pub cut_off : (now : Contents) (old new : Option (List ℕ)) (kept : List File) (name : List ℕ) (at left : List (List ℕ)) (taken lists : ℕ) (counts : Counts) (status : ℕ) → IsUnderWay held w names first old kept at taken lists counts → at ≡ name ∷ left → now ≡ held
         → IsCut now w name left lists old new status → AreCut held w names first new status
-    cut_off now old new name at left taken lists counts status way is same ends =
+    cut_off now old new kept name at left taken lists counts status way is same ends =
         let cut = subst (λ (files : Contents). IsCut files w name left lists old new status) same ends in
         record {
           cames = way.cames ++ cut.what ∷ [];
@@ -238,13 +247,14 @@ module _ (held : Contents) (w : Wishes) where
     or_left false left is = sym is
 
     -- all were taken
-    pub all_counted : (new : Option (List ℕ)) (left : List (List ℕ)) (taken lists : ℕ) (counts : Counts) → IsUnderWay held w names first new left taken lists counts → are_left left ≡ false → AreCounted held w names first new counts
-    all_counted new left taken lists counts way none = record {
+    pub all_counted : (new : Option (List ℕ)) (kept : List File) (left : List (List ℕ)) (taken lists : ℕ) (counts : Counts) → IsUnderWay held w names first new kept left taken lists counts → are_left left ≡ false → AreCounted held w names first new kept counts
+    all_counted new kept left taken lists counts way none = record {
       cames = way.cames;
       left = left;
       lists = lists;
       walks = way.walks;
       sent = way.sent;
+      explained = way.explained;
       uncut = way.uncut;
       failed = way.failed ∙ or_left _ left none;
       differing = way.differing;
@@ -260,14 +270,15 @@ module _ (held : Contents) (w : Wishes) where
     or_none false = refl
 
     -- they are too many
-    pub too_many : (new : Option (List ℕ)) (left : List (List ℕ)) (taken lists : ℕ) (counts counts' : Counts) → IsUnderWay held w names first new left taken lists counts → taken ≡ 1000000 → are_left left ≡ true
-        → nat_lt 0 counts'.failed ≡ (nat_lt 0 counts.failed || is_failed Failed) → nat_lt 0 counts'.differing ≡ (nat_lt 0 counts.differing || is_differing Failed) → AreCounted held w names first new counts'
-    too_many new left taken lists counts counts' way is some failed differing = record {
+    pub too_many : (new : Option (List ℕ)) (kept : List File) (left : List (List ℕ)) (taken lists : ℕ) (counts counts' : Counts) → IsUnderWay held w names first new kept left taken lists counts → taken ≡ 1000000 → are_left left ≡ true
+        → nat_lt 0 counts'.failed ≡ (nat_lt 0 counts.failed || is_failed Failed) → nat_lt 0 counts'.differing ≡ (nat_lt 0 counts.differing || is_differing Failed) → AreCounted held w names first new kept counts'
+    too_many new kept left taken lists counts counts' way is some failed differing = record {
       cames = way.cames;
       left = left;
       lists = lists;
       walks = way.walks;
       sent = way.sent;
+      explained = way.explained;
       uncut = way.uncut;
       failed = failed ∙ ap (λ (b : Bool). b || true) way.failed ∙ or_yes _ left some;
       differing = differing ∙ or_none _ ∙ way.differing;
@@ -296,13 +307,14 @@ module _ (held : Contents) (w : Wishes) where
     cut_starved cames status (inr four) is = four.1
 
     -- the command was ended
-    pub answered_cut : (new : Option (List ℕ)) (status : ℕ) → AreCut held w names first new status → AreAnswered held w names first new status
+    pub answered_cut : (new : Option (List ℕ)) (status : ℕ) (cut : AreCut held w names first new status) → AreAnswered held w names first new (all_explained cut.cames) status
     answered_cut new status cut = record {
       cames = cut.cames;
       left = cut.left;
       lists = cut.lists;
       walks = cut.walks;
       sent = cut.sent;
+      explained = refl;
       within = cut_within cut.cames status cut.of_cause;
       fitting = λ two. cut_not cut.cames status 2 cut.of_cause two (λ e. absurd (omega arith)) (λ e. absurd (omega arith));
       passed = λ none. absurd (cut_not cut.cames status 0 cut.of_cause none (λ e. absurd (omega arith)) (λ e. absurd (omega arith)));
@@ -312,17 +324,18 @@ module _ (held : Contents) (w : Wishes) where
     }
 
     -- there was no memory
-    pub answered_none : (status : ℕ) → status ≡ 4 → AreAnswered held w names first first status
+    pub answered_none : (status : ℕ) → status ≡ 4 → AreAnswered held w names first first [] status
     answered_none status is = answered_cut first status (record { cames = []; left = names; lists = 0; walks = (refl, refl); sent = appends_none first; of_cause = inr (is, inr refl) })
 
-    -- a log can't be read
-    pub answered_unread : are_compared w ≡ true → AreAnswered held w names first first 1
+    -- a log can't be read, or the folder can't have a file
+    pub answered_unread : (are_compared w || is_some w.scripts) ≡ true → AreAnswered held w names first first [] 1
     answered_unread compared = record {
       cames = [];
       left = names;
       lists = 0;
       walks = (refl, refl);
       sent = appends_none first;
+      explained = refl;
       within = omega arith;
       fitting = λ two. absurd (omega arith);
       passed = λ none. absurd (omega arith);
@@ -349,13 +362,14 @@ module _ (held : Contents) (w : Wishes) where
     fault_behind cames left false is many = inr (inr (inr (inr (none_left left (neither (has is_failed cames) (are_left left) (sym is)).1))))
 
     -- standard output takes no more at the end
-    pub answered_unflushed : (mid new : Option (List ℕ)) (counts : Counts) → AreCounted held w names first mid counts → Keeps mid new → AreAnswered held w names first new 1
-    answered_unflushed mid new counts counted kept = record {
+    pub answered_unflushed : (mid new : Option (List ℕ)) (files : List File) (counts : Counts) → AreCounted held w names first mid files counts → Keeps mid new → AreAnswered held w names first new files 1
+    answered_unflushed mid new files counts counted kept = record {
       cames = counted.cames;
       left = counted.left;
       lists = counted.lists;
       walks = counted.walks;
       sent = kept_sent mid new _ counted.sent kept;
+      explained = counted.explained;
       within = omega arith;
       fitting = λ two. absurd (omega arith);
       passed = λ none. absurd (omega arith);
@@ -394,24 +408,25 @@ module _ (held : Contents) (w : Wishes) where
     at_three false true e = (refl, refl)
     at_three false false e = absurd cc
 
-    passed_so : (counts : Counts) (new : Option (List ℕ)) (differs : Bool) (counted : AreCounted held w names first new counts) → nat_lt 0 counts.failed ≡ false → nat_lt 0 counts.differing ≡ differs → AllPassed counted.cames counted.left differs
-    passed_so counts new differs counted failed differing =
+    passed_so : (counts : Counts) (new : Option (List ℕ)) (files : List File) (differs : Bool) (counted : AreCounted held w names first new files counts) → nat_lt 0 counts.failed ≡ false → nat_lt 0 counts.differing ≡ differs → AllPassed counted.cames counted.left differs
+    passed_so counts new files differs counted failed differing =
         let parts = neither (has is_failed counted.cames) (are_left counted.left) (sym counted.failed ∙ failed) in
         record { all = none_left counted.left parts.1; none_failed = parts.0; uncut = counted.uncut; differ = sym counted.differing ∙ differing }
 
     -- all were taken, and the status says how that ended
-    pub answered_all : (mid new : Option (List ℕ)) (counts : Counts) (status : ℕ) → AreCounted held w names first mid counts → Keeps mid new → status ≡ status_by (nat_lt 0 counts.failed) (nat_lt 0 counts.differing)
-        → AreAnswered held w names first new status
-    answered_all mid new counts status counted kept is = record {
+    pub answered_all : (mid new : Option (List ℕ)) (files : List File) (counts : Counts) (status : ℕ) → AreCounted held w names first mid files counts → Keeps mid new → status ≡ status_by (nat_lt 0 counts.failed) (nat_lt 0 counts.differing)
+        → AreAnswered held w names first new files status
+    answered_all mid new files counts status counted kept is = record {
       cames = counted.cames;
       left = counted.left;
       lists = counted.lists;
       walks = counted.walks;
       sent = kept_sent mid new _ counted.sent kept;
+      explained = counted.explained;
       within = subst (λ (n : ℕ). n ≤ 4) (sym is) (few (nat_lt 0 counts.failed) (nat_lt 0 counts.differing));
       fitting = λ two. not_two (nat_lt 0 counts.failed) (nat_lt 0 counts.differing) (sym is ∙ two);
-      passed = λ none. let parts = at_none (nat_lt 0 counts.failed) (nat_lt 0 counts.differing) (sym is ∙ none) in passed_so counts mid false counted parts.0 parts.1;
-      differing = λ three. let parts = at_three (nat_lt 0 counts.failed) (nat_lt 0 counts.differing) (sym is ∙ three) in passed_so counts mid true counted parts.0 parts.1;
+      passed = λ none. let parts = at_none (nat_lt 0 counts.failed) (nat_lt 0 counts.differing) (sym is ∙ none) in passed_so counts mid files false counted parts.0 parts.1;
+      differing = λ three. let parts = at_three (nat_lt 0 counts.failed) (nat_lt 0 counts.differing) (sym is ∙ three) in passed_so counts mid files true counted parts.0 parts.1;
       faulted = λ one. fault_of counted.cames counted.left (has is_failed counted.cames) refl (sym counted.failed ∙ at_one (nat_lt 0 counts.failed) (nat_lt 0 counts.differing) (sym is ∙ one)) counted.many;
       starved = λ four. absurd (not_four (nat_lt 0 counts.failed) (nat_lt 0 counts.differing) (sym is ∙ four));
     }

@@ -1,7 +1,7 @@
 -- Words read one after another.
 use Rattle.std.proofs.Common.{◌≡◌, ◌∙◌, ◌≤◌, ℕ, true, false, List, [], ◌∷◌, ◌++◌, Some, None, Ok, Err, ap, arith, get_or, inl, inr, length, map, refl, subst, sym, Option, Result}
 use Rattle.command_files.specs.Contents.{Contents}
-use Rattle.litmus_command.specs.Line.{AreAnswered, IsLineOf}
+use Rattle.litmus_command.specs.Line.{AreDone, IsLineOf}
 use Rattle.std.specs.Borrow.{Bor}
 use Rattle.litmus_command.specs.Requests.{IsWhy, ReadsOn, Takes, read_on, texts}
 use Rattle.litmus_command.specs.declared.wanted.Reading.{Reading as State}
@@ -9,7 +9,7 @@ use Rattle.litmus_command.specs.Waiting.{IsExplained}
 use Rattle.litmus_command.specs.Wishes.{Reading, Wishes, alone, is_option, of_tests, read, valued, wishes}
 use Rattle.litmus_command.specs.declared.wanted.Misuse.{Misuse}
 use Rattle.litmus_command.specs.declared.wanted.Misuse.TheVariants as misuse
-use Rattle.litmus_command.proofs.Walking.{answered_none}
+use Rattle.litmus_command.proofs.Kept.{done_none}
 
 -- ---- one more word
 
@@ -77,22 +77,22 @@ refused_on text old (x ∷ rest) first word whole why some is same so refuses =
 -- ---- the whole line
 
 module _ (held : Contents) (old new : Option (List ℕ)) (status : ℕ) where
-  no_memory : (said : Reading) → status ≡ 4 → new ≡ old → IsLineOf said held old new status
-  no_memory (Err misuse.Help) four same = inr four
-  no_memory (Err misuse.Option) four same = (inr four, same)
-  no_memory (Err misuse.Value) four same = (inr four, same)
-  no_memory (Err misuse.NoFile) four same = (inr four, same)
-  no_memory (Err misuse.NoMemory) four same = (inr four, same)
-  no_memory (Ok request) four same = subst (λ (n : Option (List ℕ)). AreAnswered held (of_tests request.0) request.1 old n status) (sym same) (answered_none held (of_tests request.0) request.1 old status four)
+  no_memory : (said : Reading) → status ≡ 4 → new ≡ old → IsLineOf said held held old new status
+  no_memory (Err misuse.Help) four same = (inr four, refl)
+  no_memory (Err misuse.Option) four same = ((inr four, same), refl)
+  no_memory (Err misuse.Value) four same = ((inr four, same), refl)
+  no_memory (Err misuse.NoFile) four same = ((inr four, same), refl)
+  no_memory (Err misuse.NoMemory) four same = ((inr four, same), refl)
+  no_memory (Ok request) four same = subst (λ (n : Option (List ℕ)). AreDone held held (of_tests request.0) request.1 old n status) (sym same) (done_none held held (of_tests request.0) request.1 old status four refl)
 
   -- words that don't fit, or ask for help
-  pub explained : (said : Reading) (why : Misuse) → IsWhy said why → IsExplained why old new status → IsLineOf said held old new status
+  pub explained : (said : Reading) (why : Misuse) → IsWhy said why → IsExplained why old new status → IsLineOf said held held old new status
   explained said misuse.NoMemory why is = no_memory said is.0 is.1
-  explained said misuse.Help why is = subst (λ (s : Reading). IsLineOf s held old new status) (sym why) (inl is)
-  explained said misuse.Option why is = subst (λ (s : Reading). IsLineOf s held old new status) (sym why) (inl is.0, is.1)
-  explained said misuse.Value why is = subst (λ (s : Reading). IsLineOf s held old new status) (sym why) (inl is.0, is.1)
-  explained said misuse.NoFile why is = subst (λ (s : Reading). IsLineOf s held old new status) (sym why) (inl is.0, is.1)
+  explained said misuse.Help why is = subst (λ (s : Reading). IsLineOf s held held old new status) (sym why) (inl is, refl)
+  explained said misuse.Option why is = subst (λ (s : Reading). IsLineOf s held held old new status) (sym why) ((inl is.0, is.1), refl)
+  explained said misuse.Value why is = subst (λ (s : Reading). IsLineOf s held held old new status) (sym why) ((inl is.0, is.1), refl)
+  explained said misuse.NoFile why is = subst (λ (s : Reading). IsLineOf s held held old new status) (sym why) ((inl is.0, is.1), refl)
 
   -- words that ask for tests
-  pub requested : (said : Reading) (w : Wishes) (names : List (List ℕ)) → said ≡ Ok (w, names) → AreAnswered held (of_tests w) names old new status → IsLineOf said held old new status
-  requested said w names is answered = subst (λ (s : Reading). IsLineOf s held old new status) (sym is) answered
+  pub requested : (left : Contents) (said : Reading) (w : Wishes) (names : List (List ℕ)) → said ≡ Ok (w, names) → AreDone held left (of_tests w) names old new status → IsLineOf said held left old new status
+  requested left said w names is done = subst (λ (s : Reading). IsLineOf s held left old new status) (sym is) done

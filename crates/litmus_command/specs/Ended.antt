@@ -13,6 +13,7 @@ use Rattle.litmus_answers.specs.Layouts.{IsLayout}
 use Rattle.litmus_answers.specs.declared.layout.Layout.{Layout}
 use Rattle.litmus_command.specs.Answers.{AnswersTest, IsHalt}
 use Rattle.litmus_command.specs.Comparing.{IsJudged, Logged, as_logged}
+use Rattle.litmus_command.specs.Files.{File}
 use Rattle.litmus_command.specs.Wishes.{Wishes, are_compared}
 use Rattle.litmus_parts.specs.Stops.{fault_of, line_of}
 use Rattle.litmus_parts.specs.declared.stop.Cause.{Cause}
@@ -123,9 +124,9 @@ final_status (Differs is_proved) = None
 final_status Skipped = None
 final_status Failed = None
 
--- the test in the file of this name was answered by a text, and the answer is proved
-abbrev pub IsAnswered : Contents → Wishes → (name text : List ℕ) → (is_proved : Bool) → Type 0
-IsAnswered held w name text is_proved = (bytes : List ℕ) × HoldsBytes held name bytes × AnswersTest bytes w text is_proved
+-- the test in the file of this name was answered by a text, whether the answer is proved, and the files that explain it
+abbrev pub IsAnswered : Contents → Wishes → (name text : List ℕ) → (is_proved : Bool) → (files : List File) → Type 0
+IsAnswered held w name text is_proved files = (bytes : List ℕ) × HoldsBytes held name bytes × AnswersTest bytes w text is_proved files
 
 -- the file of this name has a test, but for another machine
 abbrev pub HasOther : Contents → (name : List ℕ) → Type 0
@@ -133,27 +134,29 @@ HasOther held name = (bytes : List ℕ) × HoldsBytes held name bytes × ((cause
 
 -- a beginning of the answer
 abbrev pub IsBegun : Contents → Wishes → (name sent : List ℕ) → Type 0
-IsBegun held w name sent = (text : List ℕ) × (is_proved : Bool) × IsAnswered held w name text is_proved × ((rest : List ℕ) × (text ≡ sent ++ rest))
+IsBegun held w name sent = (text : List ℕ) × (is_proved : Bool) × (files : List File) × IsAnswered held w name text is_proved files × ((rest : List ℕ) × (text ≡ sent ++ rest))
 
 -- an answer went out; or it is compared, is as the logs have it, and was held back
 abbrev pub IsHeldBack : Contents → Wishes → (compared : Bool) → (text sent : List ℕ) → Type 0
 IsHeldBack held w false text sent = sent ≡ text
 IsHeldBack held w true text sent = IsJudged held w text true × (sent ≡ [])
 
--- how the file of this name ended, and what went out: its answer, but where that is as the logs have it, and one that isn't differs; a beginning of the answer where standard output takes no more
-abbrev pub IsEnd : Contents → Wishes → (name : List ℕ) → Ended → (sent : List ℕ) → Type 0
-IsEnd held w name (Answered is_proved) sent = (text : List ℕ) × IsAnswered held w name text is_proved × IsHeldBack held w (are_compared w) text sent
-IsEnd held w name (Differs is_proved) sent = IsAnswered held w name sent is_proved × IsTrue (are_compared w) × IsJudged held w sent false
-IsEnd held w name Skipped sent = HasOther held name × (sent ≡ [])
-IsEnd held w name Failed sent = sent ≡ []
-IsEnd held w name Closed sent = IsBegun held w name sent
-IsEnd held w name NoMemory sent = sent ≡ []
+-- how the file of this name ended, what went out, and the files that explain it: its answer, but where that is as the logs have it, and one that isn't differs; a beginning of the answer where standard output takes no more
+abbrev pub IsEnd : Contents → Wishes → (name : List ℕ) → Ended → (sent : List ℕ) → (files : List File) → Type 0
+IsEnd held w name (Answered is_proved) sent files = (text : List ℕ) × IsAnswered held w name text is_proved files × IsHeldBack held w (are_compared w) text sent
+IsEnd held w name (Differs is_proved) sent files = IsAnswered held w name sent is_proved files × IsTrue (are_compared w) × IsJudged held w sent false
+IsEnd held w name Skipped sent files = HasOther held name × (sent ≡ []) × (files ≡ [])
+IsEnd held w name Failed sent files = (sent ≡ []) × (files ≡ [])
+IsEnd held w name Closed sent files = IsBegun held w name sent
+IsEnd held w name NoMemory sent files = sent ≡ []
 
--- it ended so, and that went out
-pub record Ends (held : Contents) (w : Wishes) (name : List ℕ) (old new : Option (List ℕ)) (ended : Ended) : Type 0 where
+-- it ended so, that went out, and the files that explain it stand behind others
+pub record Ends (held : Contents) (w : Wishes) (name : List ℕ) (old new : Option (List ℕ)) (before after : List File) (ended : Ended) : Type 0 where
   pub sent : List ℕ
-  pub is_end : IsEnd held w name ended sent
+  pub files : List File
+  pub is_end : IsEnd held w name ended sent files
   pub went : Appends old new sent
+  pub kept : after ≡ before ++ files
 
 -- a file can't be read, or memory was refused
 abbrev pub IsUnread : Ended → Type 0
@@ -172,6 +175,11 @@ IsPrinted logs compared text is_proved old new Skipped = ⊥
 IsPrinted logs compared text is_proved old new Failed = ⊥
 IsPrinted logs compared text is_proved old new Closed = Begins old new text
 IsPrinted logs compared text is_proved old new NoMemory = new ≡ old
+
+-- and the files that explain it stand behind others; or there was no memory for them
+abbrev pub IsGiven : Logged → (compared : Bool) → (text : List ℕ) → (is_proved : Bool) → (files : List File) → (old new : Option (List ℕ)) → (before after : List File) → Ended → Type 0
+IsGiven logs compared text is_proved files old new before after e =
+    (IsPrinted logs compared text is_proved old new e × (after ≡ before ++ files)) ⊎ ((e ≡ NoMemory) × (new ≡ old) × (after ≡ before))
 
 -- all of an answer went out, or a beginning of it
 abbrev pub IsSent : (text : List ℕ) → (old new : Option (List ℕ)) → (wanted ended : Ended) → Type 0

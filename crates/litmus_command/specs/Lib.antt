@@ -3,6 +3,9 @@ pub mod Requests
 pub mod Listing
 pub mod States
 pub mod Programs
+pub mod Files
+pub mod Explaining
+pub mod Keeping
 pub mod Answers
 pub mod Comparing
 pub mod Ended

@@ -1,5 +1,5 @@
 -- What `rvtl litmus` has done, by its status.
-use Rattle.std.specs.Prelude.{ℕ, ◌≡◌, ◌≢◌, ◌⊎◌, ◌+◌, ◌<◌, ◌≤◌, ◌==◌, ◌||◌, Bool, true, false, List, [], ◌∷◌, ◌++◌, Option, Ok, Err, length, nat_lt}
+use Rattle.std.specs.Prelude.{ℕ, ◌≡◌, ◌≢◌, ◌⊎◌, ◌+◌, ◌<◌, ◌≤◌, ◌||◌, Bool, true, false, List, [], ◌∷◌, ◌++◌, Option, Ok, Err, is_some, length, nat_lt}
 use Rattle.std.specs.Io.KnownBytes.{Appends}
 use Rattle.std.specs.List.{flat_map, list_any}
 use Rattle.command_files.specs.Contents.{Contents, HoldsBytes}
@@ -8,7 +8,9 @@ use Rattle.litmus_command.specs.declared.ended.Ended.{Ended}
 use Rattle.litmus_command.specs.declared.wanted.Misuse.{Misuse}
 use Rattle.litmus_command.specs.declared.wanted.Misuse.TheVariants as misuse
 use Rattle.litmus_command.specs.Ended.{IsEnd, is_closed, is_cut, is_differing, is_failed, is_starved}
-use Rattle.litmus_command.specs.Listing.{names_in}
+use Rattle.litmus_command.specs.Files.{File}
+use Rattle.litmus_command.specs.Keeping.{AreKept, SparesOthers, Stay, files_named}
+use Rattle.litmus_command.specs.Listing.{is_list, names_in}
 use Rattle.litmus_command.specs.Wishes.{Reading, Wishes, are_compared, of_tests, request_in}
 
 -- ---- one name after another
@@ -17,28 +19,31 @@ use Rattle.litmus_command.specs.Wishes.{Reading, Wishes, are_compared, of_tests,
 pub data Came : Type 0 where
   -- it is of a list with this text, whose names go before the others
   listed : (text : List ℕ) → Came
-  -- a file, or a list that can't be read, ended so, and that went out
-  ended : (how : Ended) → (sent : List ℕ) → Came
+  -- a file, or a list that can't be read, ended so, that went out, and these files explain it
+  ended : (how : Ended) → (sent : List ℕ) → (files : List File) → Came
 
 abbrev pub sent_of : Came → List ℕ
 sent_of (listed text) = []
-sent_of (ended how sent) = sent
+sent_of (ended how sent files) = sent
 
 abbrev pub all_sent : List Came → List ℕ
 all_sent = flat_map sent_of
 
+-- what explains it
+abbrev pub explained_by : Came → List File
+explained_by (listed text) = []
+explained_by (ended how sent files) = files
+
+abbrev pub all_explained : List Came → List File
+all_explained = flat_map explained_by
+
 abbrev pub ended_as : (Ended → Bool) → Came → Bool
 ended_as test (listed text) = false
-ended_as test (ended how sent) = test how
+ended_as test (ended how sent files) = test how
 
 -- one of them ended so
 abbrev pub has : (Ended → Bool) → List Came → Bool
 has test = list_any (ended_as test)
-
--- @ stands before a list's name
-abbrev pub is_list : List ℕ → Bool
-is_list [] = false
-is_list (b ∷ name) = b == 64
 
 -- a list was read, and no more than 1000 are
 pub record IsListed (held : Contents) (name : List ℕ) (waiting : List (List ℕ)) (lists : ℕ) (text : List ℕ) (next : List (List ℕ)) (count : ℕ) : Type 0 where
@@ -50,8 +55,8 @@ pub record IsListed (held : Contents) (name : List ℕ) (waiting : List (List �
   pub counted : count ≡ lists + 1
 
 -- a file ended so; a list doesn't, unless it can't be read
-pub record IsOver (held : Contents) (w : Wishes) (name : List ℕ) (waiting : List (List ℕ)) (lists : ℕ) (how : Ended) (sent : List ℕ) (next : List (List ℕ)) (count : ℕ) : Type 0 where
-  pub is_end : IsEnd held w name how sent
+pub record IsOver (held : Contents) (w : Wishes) (name : List ℕ) (waiting : List (List ℕ)) (lists : ℕ) (how : Ended) (sent : List ℕ) (files : List File) (next : List (List ℕ)) (count : ℕ) : Type 0 where
+  pub is_end : IsEnd held w name how sent files
   pub of_list : is_list name ≡ true → (is_failed how || is_cut how) ≡ true
   pub others : next ≡ waiting
   pub same : count ≡ lists
@@ -59,7 +64,7 @@ pub record IsOver (held : Contents) (w : Wishes) (name : List ℕ) (waiting : Li
 -- that came of a name before those that wait, so many lists having been read; these names wait then
 abbrev pub IsTaken : Contents → Wishes → (name : List ℕ) → (waiting : List (List ℕ)) → (lists : ℕ) → Came → (next : List (List ℕ)) → (count : ℕ) → Type 0
 IsTaken held w name waiting lists (listed text) next count = IsListed held name waiting lists text next count
-IsTaken held w name waiting lists (ended how sent) next count = IsOver held w name waiting lists how sent next count
+IsTaken held w name waiting lists (ended how sent files) next count = IsOver held w name waiting lists how sent files next count
 
 -- that came of the names in their order, the first one first; those that wait then are left
 abbrev pub Walks : Contents → Wishes → (names : List (List ℕ)) → (lists : ℕ) → List Came → (left : List (List ℕ)) → (count : ℕ) → Type 0
@@ -74,12 +79,13 @@ abbrev pub are_left : List (List ℕ) → Bool
 are_left [] = false
 are_left (name ∷ names) = true
 
--- that came of so many names, and no more went out; nothing has ended the command
-pub record IsUnderWay (held : Contents) (w : Wishes) (names : List (List ℕ)) (old new : Option (List ℕ)) (left : List (List ℕ)) (taken lists : ℕ) (counts : Counts) : Type 0 where
+-- that came of so many names, no more went out, and these files explain it; nothing has ended the command
+pub record IsUnderWay (held : Contents) (w : Wishes) (names : List (List ℕ)) (old new : Option (List ℕ)) (kept : List File) (left : List (List ℕ)) (taken lists : ℕ) (counts : Counts) : Type 0 where
   pub cames : List Came
   pub walks : Walks held w names 0 cames left lists
   pub count : length cames ≡ taken
   pub sent : Appends old new (all_sent cames)
+  pub explained : kept ≡ all_explained cames
   pub uncut : has is_cut cames ≡ false
   pub failed : nat_lt 0 counts.failed ≡ has is_failed cames
   pub differing : nat_lt 0 counts.differing ≡ has is_differing cames
@@ -89,12 +95,13 @@ abbrev pub AreTooMany : List Came → (left : List (List ℕ)) → Type 0
 AreTooMany cames left = (length cames ≡ 1000000) × (are_left left ≡ true)
 
 -- that came of all names; where they are too many, those that are left count as one that failed
-pub record AreCounted (held : Contents) (w : Wishes) (names : List (List ℕ)) (old new : Option (List ℕ)) (counts : Counts) : Type 0 where
+pub record AreCounted (held : Contents) (w : Wishes) (names : List (List ℕ)) (old new : Option (List ℕ)) (kept : List File) (counts : Counts) : Type 0 where
   pub cames : List Came
   pub left : List (List ℕ)
   pub lists : ℕ
   pub walks : Walks held w names 0 cames left lists
   pub sent : Appends old new (all_sent cames)
+  pub explained : kept ≡ all_explained cames
   pub uncut : has is_cut cames ≡ false
   pub failed : nat_lt 0 counts.failed ≡ (has is_failed cames || are_left left)
   pub differing : nat_lt 0 counts.differing ≡ has is_differing cames
@@ -120,27 +127,36 @@ pub record AllPassed (cames : List Came) (left : List (List ℕ)) (differing : B
   pub uncut : has is_cut cames ≡ false
   pub differ : has is_differing cames ≡ differing
 
--- a log can't be read, and nothing was taken; or a file fails, or there are too many names; or standard output takes no more, at a file or behind all
+-- a log can't be read, or no file can be made in the folder for what explains the answers, and nothing was taken; or a file fails, or there are too many names; or standard output takes no more, at a file or behind all; or a file that explains an answer can't be made, behind all
 abbrev pub HasFault : Wishes → List Came → (left : List (List ℕ)) → Type 0
-HasFault w cames left = ((are_compared w ≡ true) × (cames ≡ [])) ⊎ (has is_failed cames ≡ true) ⊎ AreTooMany cames left ⊎ (has is_closed cames ≡ true) ⊎ (left ≡ [])
+HasFault w cames left = (((are_compared w || is_some w.scripts) ≡ true) × (cames ≡ [])) ⊎ (has is_failed cames ≡ true) ⊎ AreTooMany cames left ⊎ (has is_closed cames ≡ true) ⊎ (left ≡ [])
 
 -- memory was refused at a file, or before any was taken
 abbrev pub HasStarved : List Came → Type 0
 HasStarved cames = (has is_starved cames ≡ true) ⊎ (cames ≡ [])
 
--- the files' answers went out in their order, and nothing else; all of them, and as the logs have them, at status 0, and not so at status 3; at status 1 with a fault, at status 4 for want of memory
-pub record AreAnswered (held : Contents) (w : Wishes) (names : List (List ℕ)) (old new : Option (List ℕ)) (status : ℕ) : Type 0 where
+-- the files' answers went out in their order, and nothing else; all of them, and as the logs have them, at status 0, and not so at status 3; at status 1 with a fault, at status 4 for want of memory; the files are those that explain the answers
+pub record AreAnswered (held : Contents) (w : Wishes) (names : List (List ℕ)) (old new : Option (List ℕ)) (files : List File) (status : ℕ) : Type 0 where
   pub cames : List Came
   pub left : List (List ℕ)
   pub lists : ℕ
   pub walks : Walks held w names 0 cames left lists
   pub sent : Appends old new (all_sent cames)
+  pub explained : files ≡ all_explained cames
   pub within : status ≤ 4
   pub fitting : status ≢ 2
   pub passed : status ≡ 0 → AllPassed cames left false
   pub differing : status ≡ 3 → AllPassed cames left true
   pub faulted : status ≡ 1 → HasFault w cames left
   pub starved : status ≡ 4 → HasStarved cames
+
+-- and at status 0 and 3 each of those files is there; no other file is another than before, and none that the words name
+pub record AreDone (held left : Contents) (w : Wishes) (names : List (List ℕ)) (old new : Option (List ℕ)) (status : ℕ) : Type 0 where
+  pub files : List File
+  pub answered : AreAnswered held w names old new files status
+  pub kept : (status ≡ 0) ⊎ (status ≡ 3) → AreKept left files
+  pub spared : SparesOthers files held left
+  pub stays : Stay (files_named w names) held left
 
 -- ---- the line
 
@@ -149,10 +165,10 @@ abbrev pub IsTold : Misuse → (old new : Option (List ℕ)) → (status : ℕ) 
 IsTold misuse.Help old new status = (status ≤ 1) ⊎ (status ≡ 4)
 IsTold why old new status = ((status ≡ 2) ⊎ (status ≡ 4)) × (new ≡ old)
 
-abbrev pub IsLineOf : Reading → Contents → (old new : Option (List ℕ)) → (status : ℕ) → Type 0
-IsLineOf (Err why) held old new status = IsTold why old new status
-IsLineOf (Ok request) held old new status = AreAnswered held (of_tests request.0) request.1 old new status
+abbrev pub IsLineOf : Reading → (held left : Contents) → (old new : Option (List ℕ)) → (status : ℕ) → Type 0
+IsLineOf (Err why) held left old new status = IsTold why old new status × (left ≡ held)
+IsLineOf (Ok request) held left old new status = AreDone held left (of_tests request.0) request.1 old new status
 
 -- what was asked for by the words behind `litmus` was done, and the status says how that ended
-abbrev pub IsLine : (words : List (List ℕ)) → Contents → (old new : Option (List ℕ)) → (status : ℕ) → Type 0
-IsLine words held old new status = IsLineOf (request_in words) held old new status
+abbrev pub IsLine : (words : List (List ℕ)) → (held left : Contents) → (old new : Option (List ℕ)) → (status : ℕ) → Type 0
+IsLine words held left old new status = IsLineOf (request_in words) held left old new status

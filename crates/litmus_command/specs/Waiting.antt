@@ -9,7 +9,8 @@ use Rattle.litmus_command.specs.declared.logs.Logs.{Logs}
 use Rattle.litmus_command.specs.declared.wanted.Misuse.{Misuse}
 use Rattle.litmus_command.specs.declared.wanted.Misuse.TheVariants as misuse
 use Rattle.litmus_command.specs.Ended.{is_closed, is_cut, is_differing, is_failed, is_starved}
-use Rattle.litmus_command.specs.Line.{Came, IsTaken, ended_as, sent_of}
+use Rattle.litmus_command.specs.Files.{File}
+use Rattle.litmus_command.specs.Line.{Came, IsTaken, ended_as, explained_by, sent_of}
 use Rattle.litmus_command.specs.Line.Came.{ended, listed}
 use Rattle.litmus_command.specs.Listing.{names_in, texts_of}
 use Rattle.litmus_command.specs.Wishes.{Wishes}
@@ -28,22 +29,24 @@ HasNames held list before after = (text : List ℕ) × HoldsBytes held list text
 -- what is told of a name: a list's names wait now, or it ended so
 abbrev pub TellsHow : Option Ended → Came → Type 0
 TellsHow None (listed text) = Unit {0}
-TellsHow None (ended how sent) = ⊥
+TellsHow None (ended how sent files) = ⊥
 TellsHow (Some how) (listed text) = ⊥
-TellsHow (Some how) (ended told sent) = told ≡ how
+TellsHow (Some how) (ended told sent files) = told ≡ how
 
--- that came of a name, and no more went out
-pub record Takes (held : Contents) (w : Wishes) (name : List ℕ) (before : List (List ℕ)) (lists : ℕ) (old new : Option (List ℕ)) (after : List (List ℕ)) (count : ℕ) (told : Option Ended) : Type 0 where
+-- that came of a name, no more went out, and the files that explain it stand behind others
+pub record Takes (held : Contents) (w : Wishes) (name : List ℕ) (before : List (List ℕ)) (lists : ℕ) (old new : Option (List ℕ)) (kept kept' : List File) (after : List (List ℕ)) (count : ℕ) (told : Option Ended) : Type 0 where
   pub what : Came
   pub taken : IsTaken held w name before lists what after count
   pub went : Appends old new (sent_of what)
+  pub explained : kept' ≡ kept ++ explained_by what
   pub how : TellsHow told what
 
 -- and it is counted, and doesn't end the command
-pub record GoesOn (held : Contents) (w : Wishes) (name : List ℕ) (before : List (List ℕ)) (lists : ℕ) (counts : Counts) (old new : Option (List ℕ)) (after : List (List ℕ)) (count : ℕ) (counts' : Counts) : Type 0 where
+pub record GoesOn (held : Contents) (w : Wishes) (name : List ℕ) (before : List (List ℕ)) (lists : ℕ) (counts : Counts) (old new : Option (List ℕ)) (kept kept' : List File) (after : List (List ℕ)) (count : ℕ) (counts' : Counts) : Type 0 where
   pub what : Came
   pub taken : IsTaken held w name before lists what after count
   pub went : Appends old new (sent_of what)
+  pub explained : kept' ≡ kept ++ explained_by what
   pub uncut : ended_as is_cut what ≡ false
   pub failed : nat_lt 0 counts'.failed ≡ (nat_lt 0 counts.failed || ended_as is_failed what)
   pub differing : nat_lt 0 counts'.differing ≡ (nat_lt 0 counts.differing || ended_as is_differing what)

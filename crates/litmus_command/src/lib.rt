@@ -2,8 +2,11 @@
 #![tactic(auto)]
 
 mod ended;
+mod explaining;
 mod fault;
 mod files;
+mod keepsake;
+mod keeping;
 mod line;
 mod logs;
 mod program;

@@ -1,9 +1,12 @@
 //! The whole command.
-ghost use Rattle.std.specs.Prelude.{◌≡◌, ◌<◌, ◌≤◌, ◌++◌, ◌∷◌, MatchOption, IfErr, IfOk, false, is_some, map, true};
+ghost use Rattle.std.specs.Prelude.{◌≡◌, ◌<◌, ◌≤◌, ◌++◌, ◌∷◌, [], MatchOption, IfErr, IfOk, false, is_some, map, true};
 ghost use Rattle.std.specs.Option.{option_map};
 ghost use Rattle.command_files.specs.Contents.{HoldsBytes};
 ghost use Rattle.litmus_command.specs.Comparing as comparing;
 ghost use Rattle.litmus_command.specs.Ended as ends;
+ghost use Rattle.litmus_command.specs.Files.{files_of};
+ghost use Rattle.litmus_command.specs.Keeping as keeping;
+ghost use Rattle.litmus_command.specs.Listing.{is_list};
 ghost use Rattle.litmus_command.specs.Line as line;
 ghost use Rattle.litmus_command.specs.Requests.{texts};
 ghost use Rattle.litmus_command.specs.Waiting as waiting;
@@ -12,12 +15,15 @@ ghost use Rattle.litmus_command.specs.Wishes as wishes;
 use crate::ended::{Counts, Ended, final_status};
 use crate::fault::{Halt, Told, Trouble};
 use crate::files::names_in;
+use crate::keeping::{check_folder, file_names, keep};
+use crate::keepsake::Keepsake;
 use crate::logs::Logs;
 use crate::test::{Reply, answer_to};
 use crate::usage::{HELP, remedy};
 use crate::wanted::{Misuse, Request, Wanted, request_of};
 use command_files::{Escaped, Fault, Files, contents};
 use litmus_answers::{Entry, entries_of};
+use progress_line::{Progress, Stage};
 use std::alloc::{AllocError, Global};
 use std::convert::AsStr;
 use std::io::Write;
@@ -95,20 +101,44 @@ fn print<O: Write>(alloc: Global, reply: &Reply, logs: &Logs, out: &mut O) -> En
     }
 }
 
+/// Keeps the files that explain an answer, and prints it.
+#[tactic(auto, using(crate::proofs::Explained::kept_append))]
+fn give<O: Write, P: Progress>(
+    alloc: Global,
+    mut reply: Reply,
+    logs: &Logs,
+    kept: &mut Vec<Keepsake>,
+    out: &mut O,
+    progress: &P,
+) -> Ended
+    ensures { ends.IsGiven (comparing.logged logs.now) (waiting.are_named logs.now) reply.text.items reply.is_proved (files_of reply.files.items)
+        (O.contents out.old) (O.contents out.new) (files_of kept.old.items) (files_of kept.new.items) result }
+{
+    match kept.append(&mut reply.files) {
+        Ok(()) => {
+            progress.end();
+            print(alloc, &reply, logs, out)
+        }
+        Err(_) => Ended::NoMemory,
+    }
+}
+
 /// Answers the test of a file.
 #[tactic(auto, using(crate::proofs::Ends::unread, crate::proofs::Ends::refused, crate::proofs::Ends::answered))]
-fn answer_file<F: Files, O: Write, E: Write>(
+fn answer_file<F: Files, O: Write, E: Write, P: Progress>(
     alloc: Global,
     files: &mut F,
     name: &str,
     wanted: Wanted<'_>,
     logs: &Logs,
+    kept: &mut Vec<Keepsake>,
     out: &mut O,
     err: &mut E,
+    progress: &P,
 ) -> Ended
     requires states { 0 < wanted.states }
     requires logs { comparing.AreLogs (F.held files.old) (wishes.wishes wanted) (comparing.logged logs.now) }
-    ensures end { ends.Ends (F.held files.old) (wishes.wishes wanted.entry) name.now (O.contents out.old) (O.contents out.new) result }
+    ensures end { ends.Ends (F.held files.old) (wishes.wishes wanted.entry) name.now (O.contents out.old) (O.contents out.new) (files_of kept.old.items) (files_of kept.new.items) result }
     ensures stays { F.held files.new ≡ F.held files.old }
 {
     let bytes = match read(alloc, files, name, err) {
@@ -116,8 +146,11 @@ fn answer_file<F: Files, O: Write, E: Write>(
         Err(ended) => return ended,
     };
     match answer_to(alloc, &bytes, wanted) {
-        Ok(reply) => print(alloc, &reply, logs, out),
-        Err(trouble) => refuse(name, &trouble, err),
+        Ok(reply) => give(alloc, reply, logs, kept, out, progress),
+        Err(trouble) => {
+            progress.end();
+            refuse(name, &trouble, err)
+        }
     }
 }
 
@@ -202,14 +235,14 @@ fn pending_of(alloc: Global, names: &[&str]) -> Result<Vec<String>, AllocError>
 /// The list that a name is of, if it is of one.
 #[tactic(auto, using(crate::proofs::Naming::list_named))]
 fn list_named(name: &str) -> Option<&str>
-    ensures { MatchOption result (line.is_list name.now ≡ false) (λ list. name.now ≡ 64 ∷ list.now) }
+    ensures { MatchOption result (is_list name.now ≡ false) (λ list. name.now ≡ 64 ∷ list.now) }
 {
     name.strip_prefix('@')
 }
 
 /// Goes on with a name: reads a list's names, or answers the test of a file.
 #[tactic(auto, using(crate::proofs::Walking::took_file, crate::proofs::Walking::took_none, crate::proofs::Walking::took_unread, crate::proofs::Walking::took_list))]
-fn take<F: Files, O: Write, E: Write>(
+fn take<F: Files, O: Write, E: Write, P: Progress>(
     alloc: Global,
     files: &mut F,
     name: &str,
@@ -217,19 +250,23 @@ fn take<F: Files, O: Write, E: Write>(
     logs: &Logs,
     pending: &mut Vec<String>,
     lists: &mut u32,
+    kept: &mut Vec<Keepsake>,
     out: &mut O,
     err: &mut E,
+    progress: &P,
 ) -> Option<Ended>
     requires states { 0 < wanted.states }
     requires logs { comparing.AreLogs (F.held files.old) (wishes.wishes wanted) (comparing.logged logs.now) }
     requires lists { lists.old ≤ 1000 }
     ensures lists { lists.new ≤ 1000 }
     ensures took { waiting.Takes (F.held files.old) (wishes.wishes wanted.entry) name.now (waiting.waiting pending.old.items) lists.old (O.contents out.old)
-        (O.contents out.new) (waiting.waiting pending.new.items) lists.new result }
+        (O.contents out.new) (files_of kept.old.items) (files_of kept.new.items) (waiting.waiting pending.new.items) lists.new result }
     ensures stays { F.held files.new ≡ F.held files.old }
 {
     let Some(list) = list_named(name) else {
-        return Some(answer_file(alloc, files, name, wanted, logs, out, err));
+        return Some(answer_file(
+            alloc, files, name, wanted, logs, kept, out, err, progress,
+        ));
     };
     if *lists == MOST_LISTS {
         let list = Escaped(list);
@@ -247,7 +284,7 @@ fn take<F: Files, O: Write, E: Write>(
 
 /// Goes on with the next name, and counts how its file ended; or answers the status with which the command ends.
 #[tactic(auto, using(crate::proofs::Walking::goes_on_listed, crate::proofs::Walking::goes_on_ended, crate::proofs::Walking::cut_by))]
-fn take_next<F: Files, O: Write, E: Write>(
+fn take_next<F: Files, O: Write, E: Write, P: Progress>(
     alloc: Global,
     files: &mut F,
     name: &str,
@@ -256,19 +293,23 @@ fn take_next<F: Files, O: Write, E: Write>(
     pending: &mut Vec<String>,
     lists: &mut u32,
     counts: &mut Counts,
+    kept: &mut Vec<Keepsake>,
     out: &mut O,
     err: &mut E,
+    progress: &P,
 ) -> Result<(), u8>
     requires states { 0 < wanted.states }
     requires logs { comparing.AreLogs (F.held files.old) (wishes.wishes wanted) (comparing.logged logs.now) }
     requires lists { lists.old ≤ 1000 }
     ensures lists { lists.new ≤ 1000 }
     ensures counted { IfOk result (λ _. waiting.GoesOn (F.held files.old) (wishes.wishes wanted.entry) name.now (waiting.waiting pending.old.items) lists.old counts.old (O.contents out.old)
-        (O.contents out.new) (waiting.waiting pending.new.items) lists.new counts.new) }
+        (O.contents out.new) (files_of kept.old.items) (files_of kept.new.items) (waiting.waiting pending.new.items) lists.new counts.new) }
     ensures cut { IfErr result (waiting.IsCut (F.held files.old) (wishes.wishes wanted.entry) name.now (waiting.waiting pending.old.items) lists.old (O.contents out.old) (O.contents out.new)) }
     ensures stays { F.held files.new ≡ F.held files.old }
 {
-    let took = take(alloc, files, name, wanted, logs, pending, lists, out, err);
+    let took = take(
+        alloc, files, name, wanted, logs, pending, lists, kept, out, err, progress,
+    );
     if let Some(ended) = took {
         if let Some(status) = final_status(ended) {
             return Err(status);
@@ -280,19 +321,22 @@ fn take_next<F: Files, O: Write, E: Write>(
 
 /// Answers the tests of the files that are named, and of those in lists; or the status with which the command ends
 /// before.
-#[tactic(auto, using(crate::proofs::Logged::logs_stay, crate::proofs::Walking::begun, crate::proofs::Walking::further, crate::proofs::Walking::cut_off, crate::proofs::Walking::cut_first, crate::proofs::Walking::all_counted, crate::proofs::Walking::too_many, crate::proofs::Walking::next_name, crate::proofs::Walking::some_wait, crate::proofs::Walking::none_waits))]
-fn answer_all<F: Files, O: Write, E: Write>(
+#[tactic(auto, using(crate::proofs::Explained::none_kept, crate::proofs::Logged::logs_stay, crate::proofs::Walking::begun, crate::proofs::Walking::further, crate::proofs::Walking::cut_off, crate::proofs::Walking::cut_first, crate::proofs::Walking::all_counted, crate::proofs::Walking::too_many, crate::proofs::Walking::next_name, crate::proofs::Walking::some_wait, crate::proofs::Walking::none_waits))]
+fn answer_all<F: Files, O: Write, E: Write, P: Progress>(
     alloc: Global,
     files: &mut F,
     names: &[&str],
     wanted: Wanted<'_>,
     logs: &Logs,
+    kept: &mut Vec<Keepsake>,
     out: &mut O,
     err: &mut E,
+    progress: &P,
 ) -> Result<Counts, u8>
     requires states { 0 < wanted.states }
     requires logs { comparing.AreLogs (F.held files.old) (wishes.wishes wanted) (comparing.logged logs.now) }
-    ensures counts { IfOk result (line.AreCounted (F.held files.old) (wishes.wishes wanted.entry) (texts names.now) (O.contents out.old) (O.contents out.new)) }
+    requires none { kept.old.items ≡ [] }
+    ensures counts { IfOk result (line.AreCounted (F.held files.old) (wishes.wishes wanted.entry) (texts names.now) (O.contents out.old) (O.contents out.new) (files_of kept.new.items)) }
     ensures cut { IfErr result (line.AreCut (F.held files.old) (wishes.wishes wanted.entry) (texts names.now) (O.contents out.old) (O.contents out.new)) }
     ensures stays { F.held files.new ≡ F.held files.old }
 {
@@ -306,6 +350,10 @@ fn answer_all<F: Files, O: Write, E: Write>(
         let Some(name) = pending.pop() else {
             return Ok(counts);
         };
+        progress.tell(Stage::Litmus {
+            done: u64::from(taken),
+            known: u64::from(taken) + 1 + pending.len() as u64,
+        });
         taken += 1;
         take_next(
             alloc,
@@ -316,8 +364,10 @@ fn answer_all<F: Files, O: Write, E: Write>(
             &mut pending,
             &mut lists,
             &mut counts,
+            kept,
             out,
             err,
+            progress,
         )?;
     }
     if !pending.is_empty() {
@@ -382,52 +432,65 @@ fn stop<E: Write>(status: u8, err: &mut E) -> u8
 }
 
 /// Does what is asked for.
-#[tactic(auto, using(crate::proofs::Walking::answered_none, crate::proofs::Walking::answered_unread, crate::proofs::Walking::answered_cut, crate::proofs::Walking::answered_unflushed, crate::proofs::Walking::answered_all))]
-fn answer<F: Files, O: Write, E: Write>(
+#[tactic(auto, using(crate::proofs::Explained::none_kept, crate::proofs::Logged::some_mapped, crate::proofs::Kept::done_none, crate::proofs::Kept::done_unmade, crate::proofs::Kept::done_unread, crate::proofs::Kept::done_cut, crate::proofs::Kept::done_unflushed, crate::proofs::Kept::done_unkept, crate::proofs::Kept::done_all))]
+fn answer<F: Files, O: Write, E: Write, P: Progress>(
     alloc: Global,
     files: &mut F,
     request: Request<'_>,
     out: &mut O,
     err: &mut E,
+    progress: &P,
 ) -> u8
     requires { 0 < request.wanted.states }
-    ensures answered { line.AreAnswered (F.held files.old) (wishes.of_tests (wishes.wishes request.entry.wanted)) (texts request.entry.names.items) (O.contents out.old) (O.contents out.new) result }
-    ensures stays { F.held files.new ≡ F.held files.old }
+    ensures { line.AreDone (F.held files.old) (F.held files.new) (wishes.of_tests (wishes.wishes request.entry.wanted)) (texts request.entry.names.items) (O.contents out.old) (O.contents out.new) result }
 {
     let Request { wanted, names } = request;
     let wanted = wanted.for_logs();
+    let Ok(named) = file_names(alloc, &names, wanted) else {
+        return stop(4, err);
+    };
+    if let Err(status) = check_folder(alloc, files, wanted.scripts, err) {
+        return status;
+    }
     let logs = match logs_of(alloc, files, wanted, err) {
         Ok(logs) => logs,
         Err(Ended::NoMemory) => return stop(4, err),
         Err(_) => return 1,
     };
-    let counts = match answer_all(alloc, files, &names, wanted, &logs, out, err) {
+    let mut kept = Vec::new(alloc);
+    let counts = match answer_all(
+        alloc, files, &names, wanted, &logs, &mut kept, out, err, progress,
+    ) {
         Ok(counts) => counts,
         Err(status) => return stop(status, err),
     };
     if out.flush().is_err() {
         return stop(1, err);
     }
+    if let Err(status) = keep(alloc, files, &kept, &named, err) {
+        return status;
+    }
     conclude(counts, &logs, err);
     counts.status()
 }
 
-/// Does what the words behind `litmus` ask for, and answers the exit status: 0 where each file has a test that was answered
+/// Does what the words behind `litmus` ask for, writes the files that explain the answers where a folder is named for them,
+/// tells `progress` which test is answered, and answers the exit status: 0 where each file has a test that was answered
 /// or is skipped, 1 where one can't be read or has none, or standard output takes no more, 2 for words that don't fit,
 /// 3 where an answer isn't as the logs have it, 4 out of memory.
 #[tactic(auto, using(crate::proofs::Words::explained, crate::proofs::Words::requested))]
-pub fn litmus_line<S: AsStr, F: Files, O: Write, E: Write>(
+pub fn litmus_line<S: AsStr, F: Files, O: Write, E: Write, P: Progress>(
     alloc: Global,
     words: &[S],
     files: &mut F,
     out: &mut O,
     err: &mut E,
+    progress: &P,
 ) -> u8
-    ensures stays { F.held files.new ≡ F.held files.old }
-    ensures done { line.IsLine (map S.text words.now) (F.held files.old) (O.contents out.old) (O.contents out.new) result }
+    ensures { line.IsLine (map S.text words.now) (F.held files.old) (F.held files.new) (O.contents out.old) (O.contents out.new) result }
 {
     match request_of(alloc, words) {
-        Ok(request) => answer(alloc, files, request, out, err),
+        Ok(request) => answer(alloc, files, request, out, err, progress),
         Err(misuse) => explain(misuse, out, err),
     }
 }

@@ -18,6 +18,9 @@ Options:
       --expect LOG    print those tests alone whose states or answer aren't those that LOG has (herd7's, rmem's or this
                       command's own); states are compared as sets, counts and conditions not at all
       --seen LOG      print those tests alone of which LOG has a state that isn't found (litmus7's, or of an RTL)
+      --scripts FOLDER  write what explains the answers: NAME.elf, a test's program with its own names, and for each state
+                      that decides its answer NAME-K.script, or NAME-K.trace of what the model alone allows (K: the
+                      state's line), for replay, explain, chart and check
       --window N      how many operations of a hart may wait at a time, 1 to 64 [default: 16]
       --states N      how many states of a test's program are found at most, 1 to 1000000000 [default: 4000000]
   -h, --help          this text
@@ -28,7 +31,7 @@ don't settle it. No run ends: no state is final. A test for another architecture
 
 Status: 0 all tests were read and answered, those aside that were skipped; 1 a file can't be read or is no test, or a
 hart of it stops (the others are answered); 2 the words don't fit this usage; 3 with --expect or --seen: a test
-differs, is undecided, or isn't in LOG; 4 out of memory.
+differs, is undecided, or isn't in LOG; 4 out of memory. A file that explains an answer and can't be made is status 1.
 
 Example: rvtl litmus MP.litmus
 ";

@@ -23,6 +23,8 @@ pub(crate) struct Wanted<'a> {
     pub expect: Option<&'a str>,
     /// A log each of whose states has to be found.
     pub seen: Option<&'a str>,
+    /// A folder for what explains the answers.
+    pub scripts: Option<&'a str>,
 }
 
 impl<'a> Wanted<'a> {
@@ -38,6 +40,7 @@ impl<'a> Wanted<'a> {
             states: 4_000_000,
             expect: None,
             seen: None,
+            scripts: None,
         }
     }
 
@@ -159,6 +162,8 @@ fn take_valued<'a>(wanted: &mut Wanted<'a>, option: &str, value: &'a str) -> Res
         wanted.expect = Some(value);
     } else if option == "--seen" {
         wanted.seen = Some(value);
+    } else if option == "--scripts" {
+        wanted.scripts = Some(value);
     } else {
         return Err(Misuse::Option);
     }

@@ -116,6 +116,7 @@ impl Display for Line<'_> {
                     Rounded(rate)
                 )?;
             }
+            Stage::Litmus { done, known } => write!(f, "{done} of {known} tests")?,
         }
         write!(f, "{ERASE}\r")
     }

@@ -9,6 +9,8 @@ pub enum Stage<'a> {
     Explore { states: u64, outcomes: u64 },
     /// The random runs that were made, and the ends that they came to.
     Sample { runs: u64, ends: u64 },
+    /// The litmus tests and lists of them that were taken, and how many are known.
+    Litmus { done: u64, known: u64 },
 }
 
 /// Is told how far a command is, as often as the command likes.

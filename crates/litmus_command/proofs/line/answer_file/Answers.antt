@@ -1,5 +1,6 @@
 use Rattle.std.proofs.Common.{List, subst, ℕ}
 use Rattle.litmus_command.specs.Answers.{AnswersTest}
+use Rattle.litmus_command.specs.Files.{files_of}
 use Rattle.litmus_command.specs.Wishes.{wishes}
 use Rattle.litmus_command.proofs.Ends.{answered}
 use Rattle.litmus_command.proofs.line.answer_file.Goals as goal
@@ -7,6 +8,6 @@ use Rattle.litmus_command.proofs.line.answer_file.Goals as goal
 pub returns-in-Ok-answer_to-clause-end : goal.returns-in-Ok-answer_to-clause-end
 returns-in-Ok-answer_to-clause-end g c =
     let reply = c.in-Ok-answer_to.reply in
-    let answer = subst (λ (bytes : List ℕ). AnswersTest bytes (wishes c.args.wanted) reply.text.items reply.is_proved) c.deref.ensures.value c.in-Ok-answer_to.ensures.answers in
-    answered (g.F.Files.held c.args.files.now) (wishes c.args.wanted) c.args.name.now c.args.logs.now c.in-Ok.bytes.items reply.text.items reply.is_proved (g.O.Write.contents c.args.out.now) (g.O.Write.contents c.print.new.out) c.print.result
-    c.requires.logs c.in-Ok.ensures.bytes answer c.print.ensures
+    let answer = subst (λ (bytes : List ℕ). AnswersTest bytes (wishes c.args.wanted) reply.text.items reply.is_proved (files_of reply.files.items)) c.deref.ensures.value c.in-Ok-answer_to.ensures.answers in
+    answered (g.F.Files.held c.args.files.now) (wishes c.args.wanted) c.args.name.now c.args.logs.now c.in-Ok.bytes.items reply.text.items reply.is_proved (files_of reply.files.items) (files_of c.args.kept.now.items) (files_of c.give.new.kept.items) (g.O.Write.contents c.args.out.now) (g.O.Write.contents c.give.new.out) c.give.result
+    c.requires.logs c.in-Ok.ensures.bytes answer c.give.ensures
