@@ -165,13 +165,13 @@ def behind_a_limit(rvtl, folder):
 
 
 def too_much_to_draw(rvtl, folder):
-    """A script of a million events is refused as soon as a replay of it has ended, and a text without an end where no file of its kind is longer."""
+    """A script of four million events is refused at its 401st row, once it is read, and a text without an end where no file of its kind is longer."""
     script = os.path.join(folder, "much.script")
     with open(script, "w") as file:
-        file.write("rvtl-script 1 1 4 4 2\n" + "step 0\n" * 1000000)
+        file.write("rvtl-script 1 1 4 4 2\n" + "step 0\n" * 4000000)
     spin = os.path.join(folder, "spin.bin")
     begun = time.monotonic()
-    ends("a chart of a million events", [rvtl, "chart", "--raw", spin, script], 1,
+    ends("a chart of four million events", [rvtl, "chart", "--raw", spin, script], 1,
          [f"rvtl: {script}: too much to draw (400 rows, or 65535 lines of text, at most): choose less by --line, or by a shorter script"])
     tell("it is refused within two seconds", time.monotonic() < begun + 2, time.monotonic() - begun)
     endless = subprocess.Popen(["sh", "-c", "echo rvtl-trace 1; exec cat /dev/zero"], stdout=subprocess.PIPE, stderr=subprocess.DEVNULL)

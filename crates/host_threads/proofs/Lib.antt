@@ -1,3 +1,4 @@
+pub mod Alone
 pub mod Dealt
 pub mod Fresh
 pub mod Joining

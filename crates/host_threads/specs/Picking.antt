@@ -1,5 +1,5 @@
 -- What is left of a turn's pick, and what the turn is told of it.
-use Rattle.std.specs.Prelude.{ℕ, ◌≡◌, ◌⊎◌, ◌==◌, ◌&&◌, Bool, false, IsTrue, Ok, Option, Some, None, if◌then◌else◌}
+use Rattle.std.specs.Prelude.{ℕ, ◌≡◌, ◌⊎◌, ◌==◌, ◌&&◌, Bool, false, true, IsTrue, Ok, Option, Some, None, if◌then◌else◌}
 use Rattle.std.specs.declared.result.Result.{Result}
 use Rattle.elf_loader.specs.Image.{Initial}
 use Rattle.hart.specs.Local.{private_row_from}
@@ -17,6 +17,8 @@ use Rattle.machine_types.specs.declared.event.Event.TheVariants.{Step, Local}
 use Rattle.machine_types.specs.declared.limits.TheConstants.{MAX_ROW}
 use Rattle.machine_types.specs.declared.outcome.Outcome.{Outcome}
 use Rattle.machine_types.specs.declared.outcome.Outcome.TheVariants.{Retired}
+use Rattle.rv32_exec.specs.declared.actions.Action.{Action}
+use Rattle.rv32_exec.specs.declared.actions.Action.TheVariants as action
 
 -- the event is of the hart's instructions, by which its list grows
 abbrev pub is_instruction_of : (hart : ℕ) → Event → Bool
@@ -33,6 +35,11 @@ was_full (Some seen) = is_full seen.0
 abbrev pub left_of : (seen : Option (ℕ × Status)) → (hart : ℕ) → (picked : Option Event) → Option Event
 left_of seen hart None = None
 left_of seen hart (Some event) = if was_full seen && is_instruction_of hart event then None else Some event
+
+-- an instruction that is to touch no memory, fence nothing and call nothing, and doesn't stop
+abbrev pub is_private : Option Action → Bool
+is_private (Some action.Private) = true
+is_private _ = false
 
 -- ---- what is picked
 

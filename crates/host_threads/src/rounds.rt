@@ -158,8 +158,10 @@ impl<'a> Rounds<'a> {
         ensures idle { IfNone result (IsIdle self.now (node_at views.now self.now.hart)) }
     {
         let next = self.next;
+        // One copy for all steps: each mention of the constant is one.
+        let round = ROUND;
         for steps in 0..ROUND.len() {
-            let place = ROUND[(next + steps) % ROUND.len()];
+            let place = round[(next + steps) % ROUND.len()];
             if let Some(event) = self.event_at(place, views) {
                 return Some((steps, event));
             }

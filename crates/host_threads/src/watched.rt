@@ -8,10 +8,11 @@ ghost use Rattle.machine_types.specs.declared.event.Event.TheVariants as TheEven
 ghost use Rattle.machine_model.specs.Views.{node_at};
 
 use elf_loader::Image;
-use hart::{Hart, Status, next_alone};
+use hart::{Hart, Status};
 use locked_fabric::coherent_machine::{Machine, Views};
 use locked_fabric::{Turn, Visit, seen_in};
 use machine_types::{Event, MAX_CHANGES, MAX_ENTRIES, Outcome};
+use rv32_exec::Action;
 
 /// A hart's turn, with what is seen of the hart under the same lock.
 #[derive(Drop)]
@@ -135,5 +136,14 @@ fn is_step_of(event: Option<Event>, hart: u8) -> bool
 fn goes_alone(image: &Image, hart: &Hart) -> bool
     ensures { result ≡ can_go_alone image.now hart.now }
 {
-    next_alone(image, hart).is_some()
+    hart.status.is_running() && is_private(hart.next_action(image))
+}
+
+fn is_private(action: Option<Action>) -> bool
+    ensures { result ≡ picking.is_private action }
+{
+    match action {
+        Some(Action::Private) => true,
+        _ => false,
+    }
 }

@@ -109,13 +109,12 @@ impl<'a, L: Ledger, T: Turn + Drop> Worker<'a, L, T> {
         ensures common { self.new.common ≡ self.old.common }
         ensures reason { IsReason (common_of self.old) (told_by self.new) result }
     {
-        let mut turn = 0u64;
-        for _ in rt.forever() {
+        // More turns than this would take centuries.
+        for turn in 0..u64::MAX {
             if self.common.stop.load(Ordering::SeqCst) {
                 break;
             }
             self.pass(gate, turn);
-            turn = turn.wrapping_add(1);
             if let Some(ending) = self.take_turn(rt, gate) {
                 return ending;
             }

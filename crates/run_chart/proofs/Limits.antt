@@ -1,6 +1,6 @@
 -- When a picture would be too large.
 use Rattle.std.proofs.Common.{ℕ, ◌≡◌, ◌∙◌, ◌+◌, ◌-◌, ◌<◌, ◌≤◌, Err, IfErr, Ok, Result, refl, sym, ap, subst, List, [], ◌∷◌, ◌++◌, length, Option, inl, inr, arith, get_or, take, drop, true, false, not, Bool, ◌&&◌, if◌then◌else◌}
-use Rattle.std.proofs.lemmas.List.{length-append}
+use Rattle.std.proofs.lemmas.List.{append-nil, append_assoc, length-append, take-append-drop}
 use Rattle.std.specs.Prelude.{IsErrAnd}
 use Rattle.run_chart.specs.declared.rows.Note.{Note}
 use Rattle.run_chart.specs.declared.rows.Noted.{Noted}
@@ -112,23 +112,21 @@ untold_is image config events address row.TooManyRows large = large refl
 untold_is image config events address row.NoMemory large = tt
 
 -- the rows of a run that are too many, for its own lines of memory
-pub overfull : (image : Initial) (config : Config) (events : List Event) (address : Option ℕ) (reached : State) (w : LineSize) (only : Option ℕ) (columns : List ℕ) → replayed_from 0 (opening image config) events ≡ Replayed.Reached reached
-    → w ≡ reached.trace.line → only ≡ only_of w address → columns ≡ lines_of only reached.trace.log
-    → AreTooMany 0 0 (rows_of w only columns 0 0 (opening image config) events) → IsOverfull image config events address
-overfull image config events address reached w only columns leads ew eo ec full =
-    let whole : Option ℕ = only_of reached.trace.line address in
-    let bars : List ℕ = lines_of whole reached.trace.log in
-    let same : only ≡ whole = eo ∙ ap (λ (v : LineSize). only_of v address) ew in
-    let lines : columns ≡ bars = ec ∙ ap (λ (o : Option ℕ). lines_of o reached.trace.log) same in
+pub overfull : (image : Initial) (config : Config) (events : List Event) (address : Option ℕ) (reached : State) (only : Option ℕ) (columns : List ℕ) → replayed_from 0 (opening image config) events ≡ Replayed.Reached reached
+    → only ≡ only_of config.line address → columns ≡ lines_of only reached.trace.log
+    → AreTooMany 0 0 (rows_of config.line only columns 0 0 (opening image config) events) → IsOverfull image config events address
+overfull image config events address reached only columns leads same lines full =
+    let whole : Option ℕ = only_of config.line address in
+    let bars : columns ≡ lines_of whole reached.trace.log = lines ∙ ap (λ (o : Option ℕ). lines_of o reached.trace.log) same in
     record {
+      first = events;
+      later = [];
+      whole = append-nil events;
       reached = reached;
       leads = leads;
       large = inl (
-          subst (λ (v : LineSize). AreTooMany 0 0 (rows_of v whole bars 0 0 (opening image config) events)) ew (
-          subst (λ (o : Option ℕ). AreTooMany 0 0 (rows_of w o bars 0 0 (opening image config) events)) same (
-          subst (λ (cs : List ℕ). AreTooMany 0 0 (rows_of w only cs 0 0 (opening image config) events)) lines full
-          )
-          )
+          subst (λ (o : Option ℕ). AreTooMany 0 0 (rows_of config.line o (lines_of whole reached.trace.log) 0 0 (opening image config) events)) same
+          (subst (λ (cs : List ℕ). AreTooMany 0 0 (rows_of config.line only cs 0 0 (opening image config) events)) bars full)
           );
     }
 
@@ -153,10 +151,24 @@ lines_full only lines [] log d some h full = absurd (omega (arith, some))
 lines_full only lines (entry ∷ rest) log d some h full = omega (arith, full, lines_below only (with_line only lines entry) rest, ap (λ (xs : List ℕ). length xs) h)
 
 -- the bars of a run that are too many
-pub overfull_bars : (image : Initial) (config : Config) (events : List Event) (address : Option ℕ) (reached : State) (w : LineSize) (only : Option ℕ) → replayed_from 0 (opening image config) events ≡ Replayed.Reached reached
-    → w ≡ reached.trace.line → only ≡ only_of w address → 400 < length (lines_of only reached.trace.log) → IsOverfull image config events address
-overfull_bars image config events address reached w only leads ew eo full = record {
+pub overfull_bars : (image : Initial) (config : Config) (events : List Event) (address : Option ℕ) (reached : State) (only : Option ℕ) → replayed_from 0 (opening image config) events ≡ Replayed.Reached reached
+    → only ≡ only_of config.line address → 400 < length (lines_of only reached.trace.log) → IsOverfull image config events address
+overfull_bars image config events address reached only leads same full = record {
+  first = events;
+  later = [];
+  whole = append-nil events;
   reached = reached;
   leads = leads;
-  large = inr (subst (λ (o : Option ℕ). 400 < length (lines_of o reached.trace.log)) (eo ∙ ap (λ (v : LineSize). only_of v address) ew) full);
+  large = inr (subst (λ (o : Option ℕ). 400 < length (lines_of o reached.trace.log)) same full);
+}
+
+-- events of which the first are too many are too many
+pub longer : (image : Initial) (config : Config) (events : List Event) (address : Option ℕ) (n : ℕ) → IsOverfull image config (take n events) address → IsOverfull image config events address
+longer image config events address n p = record {
+  first = p.first;
+  later = p.later ++ drop n events;
+  whole = sym (append_assoc p.first p.later (drop n events)) ∙ ap (λ (xs : List Event). xs ++ drop n events) p.whole ∙ take-append-drop n events;
+  reached = p.reached;
+  leads = p.leads;
+  large = p.large;
 }

@@ -30,33 +30,36 @@ abbrev pub only_of : LineSize → Option ℕ → Option ℕ
 only_of size None = None
 only_of size (Some address) = Some (line_of size address)
 
--- the rows of a run that ended in a state
+-- the bars of a run that ended in a state: the lines of memory that messages are about
+abbrev pub bars_in : LineSize → Option ℕ → State → List ℕ
+bars_in size address reached = lines_of (only_of size address) reached.trace.log
+
+-- its rows
 abbrev pub rows_to : Initial → Config → List Event → Option ℕ → State → List Told
 rows_to image config events address reached =
-    rows_of reached.trace.line (only_of reached.trace.line address) (lines_of (only_of reached.trace.line address) reached.trace.log) 0 0 (opening image config) events
-
--- its bars: the lines of memory that messages are about
-abbrev pub bars_in : Option ℕ → State → List ℕ
-bars_in address reached = lines_of (only_of reached.trace.line address) reached.trace.log
+    rows_of config.line (only_of config.line address) (bars_in config.line address reached) 0 0 (opening image config) events
 
 -- a picture has at most 400 rows, in at most 65,535 lines of text, and at most 400 bars
 abbrev pub IsTooLarge : Initial → Config → List Event → Option ℕ → State → Type 0
-IsTooLarge image config events address reached = AreTooMany 0 0 (rows_to image config events address reached) ⊎ (400 < length (bars_in address reached))
+IsTooLarge image config events address reached = AreTooMany 0 0 (rows_to image config events address reached) ⊎ (400 < length (bars_in config.line address reached))
 
 -- the events lead from reset to a state; the rows are theirs, in their order, and the bars are of the lines of memory that messages are about
 pub record IsStory (image : Initial) (config : Config) (events : List Event) (address : Option ℕ) (story : Story) : Type 0 where
   pub reached : State
   pub leads : replayed_from 0 (opening image config) events ≡ Replayed.Reached reached
   pub harts_are : story.harts ≡ length reached.trace.statuses
-  pub columns_are : story.columns.items ≡ bars_in address reached
+  pub columns_are : story.columns.items ≡ bars_in config.line address reached
   pub rows_are : map told story.rows.items ≡ rows_to image config events address reached
   pub fits : IsTooLarge image config events address reached → ⊥
 
--- the events lead to a state, and the picture of that would be too large
+-- the first of the events, or all, lead to a state, and the picture of that would be too large
 pub record IsOverfull (image : Initial) (config : Config) (events : List Event) (address : Option ℕ) : Type 0 where
+  pub first : List Event
+  pub later : List Event
+  pub whole : first ++ later ≡ events
   pub reached : State
-  pub leads : replayed_from 0 (opening image config) events ≡ Replayed.Reached reached
-  pub large : IsTooLarge image config events address reached
+  pub leads : replayed_from 0 (opening image config) first ≡ Replayed.Reached reached
+  pub large : IsTooLarge image config first address reached
 
 -- why nothing is told: no machine was made or an event is refused, or the picture would be too large, or memory was refused
 abbrev pub IsUntold : Initial → Config → List Event → Option ℕ → ChartError → Type 0

@@ -1,14 +1,15 @@
 //! What happens in a run, row by row.
-ghost use Rattle.std.specs.Prelude.{◌≡◌, ◌<◌, ◌≤◌, ◌++◌, ◌∷◌, [], Err, IfErr, IfOk, OnOk, length, map};
+ghost use Rattle.std.specs.Prelude.{◌≡◌, ◌<◌, ◌≤◌, ◌++◌, ◌∷◌, [], Err, IfErr, IfOk, IsTrue, OnOk, length, map};
 ghost use Rattle.machine_model.specs.Events.{happens};
 ghost use Rattle.machine_model.specs.Views.{opening};
 ghost use Rattle.run_chart.specs.Rows as rows;
-ghost use Rattle.run_chart.specs.Stories.{AreTooMany, IsStory, IsRowTold, IsUntold, only_of};
+ghost use Rattle.run_chart.specs.Stories.{AreTooMany, IsOverfull, IsStory, IsRowTold, IsUntold, only_of};
 ghost use Rattle.run_chart.specs.declared.errors.RowError.TheVariants as error;
 
 use crate::before::stood_before;
 use crate::copies::lines_of;
 use crate::errors::{ChartError, RowError};
+use crate::playing::events_enough;
 use crate::row::{MOST_ROWS, Scope, is_shown, row_of};
 use crate::rows::{Row, Story};
 use elf_loader::Image;
@@ -134,7 +135,9 @@ fn only_of(size: LineSize, address: Option<u32>) -> Option<u32>
 }
 
 /// What happens in a run: a row for each event that changes the machine; where an address is given, only for
-/// those that are about the line of memory around it, with its messages alone.
+/// those that are about the line of memory around it, with its messages alone. A row too many is refused at once,
+/// however many events are behind it.
+#[tactic(auto, using(crate::proofs::Limits::longer))]
 pub fn gather(
     alloc: Global,
     image: Image,
@@ -145,8 +148,46 @@ pub fn gather(
     ensures told { IfOk result (IsStory image config events.now address) }
     ensures untold { IfErr result (IsUntold image config events.now address) }
 {
+    let size = config.line;
+    let only = only_of(size, address);
+    let count = events_enough(alloc, size, only, image.try_copy(alloc)?, config, events)?;
+    if count < events.len()
+        && is_overfull(alloc, image.try_copy(alloc)?, config, &events[..count], address)
+    {
+        return Err(ChartError::TooManyRows);
+    }
+    gather_all(alloc, image, config, events, address)
+}
+
+/// Whether the picture of these events would be too large; also not, where that can't be told.
+fn is_overfull(
+    alloc: Global,
+    image: Image,
+    config: Config,
+    events: &[Event],
+    address: Option<u32>,
+) -> bool
+    ensures { IsTrue result → IsOverfull image config events.now address }
+{
+    match gather_all(alloc, image, config, events, address) {
+        Err(ChartError::TooManyRows) => true,
+        _ => false,
+    }
+}
+
+/// What happens in a run, once all of its events were replayed.
+fn gather_all(
+    alloc: Global,
+    image: Image,
+    config: Config,
+    events: &[Event],
+    address: Option<u32>,
+) -> Result<Story, ChartError>
+    ensures told { IfOk result (IsStory image config events.now address) }
+    ensures untold { IfErr result (IsUntold image config events.now address) }
+{
     let machine = replay(alloc, image, config, events)?;
-    let size = machine.trace().line_size();
+    let size = config.line;
     let only = only_of(size, address);
     let columns = lines_of(alloc, only, machine.trace().log())?;
     let harts = machine.trace().harts() as u8;

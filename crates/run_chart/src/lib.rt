@@ -15,6 +15,7 @@ mod laws;
 mod markup;
 mod notes;
 mod plan;
+mod playing;
 mod posting;
 mod row;
 mod rows;

@@ -1,10 +1,7 @@
-use Rattle.std.proofs.Common.{◌≡◌, ◌∙◌, Bool, true, false, Some, None, ap, refl}
-use Rattle.std.specs.Prelude.{if◌then◌else◌, is_some}
+use Rattle.std.proofs.Common.{◌∙◌, ap, sym}
+use Rattle.host_threads.proofs.Alone.{goes_alone_where}
+use Rattle.host_threads.specs.Picking.{is_private}
 use Rattle.host_threads.proofs.watched.goes_alone.Goals as goal
 
-some_if : {A : Type 0} (b : Bool) (x : A) → is_some (if b then Some x else None) ≡ b
-some_if true x = refl
-some_if false x = refl
-
-pub returns : goal.returns
-returns c = c.is_some.ensures ∙ (ap is_some c.next_alone.ensures ∙ some_if _ _)
+pub returns-then-is_running : goal.returns-then-is_running
+returns-then-is_running c = c.is_private.ensures ∙ (ap is_private c.next_action.ensures ∙ goes_alone_where c.args.image.now c.args.hart.now (sym c.is_running.ensures ∙ c.if-is_running.true))
