@@ -3,7 +3,9 @@
 
 mod checking;
 mod messages;
+mod piped;
 mod reading;
+mod watch;
 
 pub use checking::{check_file, remark_unjudged};
 pub use messages::{MessageCheck, check_messages};

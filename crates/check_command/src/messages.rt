@@ -6,14 +6,17 @@ ghost use Rattle.std.specs.List.{list_any};
 ghost use Rattle.text_fields.specs.Writing.{Writes};
 ghost use Rattle.log_text.specs.Verdicts.{told_text};
 ghost use Rattle.check_command.specs.Messages.{AreListed, IsLogCutOff, HoldsLog, IsLogFault, IsLogJudged, IsMeantFault, memory_told, sourced, text_meant};
+ghost use Rattle.check_command.specs.Piped.{HasPiped, IsLogOf};
 ghost use Rattle.log_text.specs.Ending as ending;
 ghost use Rattle.log_text.specs.Meant as meaning;
 ghost use Rattle.log_text.specs.Names.{without_names};
 ghost use Rattle.log_text.specs.Laws.{IsVerdict};
-ghost use Rattle.command_files.specs.Faults.{LeavesAtFault};
+ghost use Rattle.command_files.specs.Contents.{is_input};
+ghost use Rattle.command_files.specs.Faults.{IsTextFault, LeavesAtFault};
 ghost use Rattle.trace_text.specs.TraceLimits.{IsTrace};
 ghost use Rattle.trace_text.specs.Traces as traces;
 
+use crate::piped::{Piped, piped_log};
 use crate::reading::whole_trace;
 use command_files::{Escaped, Fault, Files, remark, text_in};
 use elf_loader::Image;
@@ -66,7 +69,7 @@ pub fn check_messages<'a, F: Files, O: Write, E: Write>(
     ensures spared { F.held files.new ≡ F.held files.old }
     ensures quiet { IfOk result (λ verdict. verdict ≡ MessageVerdict.Lawful → E.contents err.new ≡ E.contents err.old) }
 {
-    let read = read_log(alloc, files, file, check.skip)?;
+    let read = read_log(alloc, files, file, check)?;
     let Ok(answer) = answered(alloc, &read.trace, check) else {
         return Err(Fault::OutOfMemory);
     };
@@ -88,11 +91,11 @@ pub fn check_messages<'a, F: Files, O: Write, E: Write>(
 
 /// A file's log.
 #[derive(Drop)]
-struct ReadLog {
-    bytes: Vec<u8>,
+pub(crate) struct ReadLog {
+    pub(crate) bytes: Vec<u8>,
     /// What the bytes stand for, with names.
-    meant: Vec<u8>,
-    trace: Trace,
+    pub(crate) meant: Vec<u8>,
+    pub(crate) trace: Trace,
 }
 
 impl ReadLog {
@@ -105,26 +108,71 @@ impl ReadLog {
     }
 }
 
-/// Reads the log that a file stands for.
+/// Reads the log that a file stands for. Of standard input no more is read than it takes for a message to break a rule,
+/// where not all are asked for.
 fn read_log<'a, F: Files>(
     alloc: Global,
     files: &mut F,
     file: &'a str,
-    skip: bool,
+    check: MessageCheck,
 ) -> Result<ReadLog, Fault<'a>>
-    ensures read { IfOk result (λ read. HoldsLog (F.held files.old) file.entry.now skip read.trace.history) }
-    ensures told { IfErr result (IsLogFault (F.held files.old) skip file.entry) }
+    ensures read { IfOk result (λ read. HoldsLog (F.held files.old) file.entry.now check read.trace.history) }
+    ensures told { IfErr result (IsLogFault (F.held files.old) check.skip file.entry) }
     ensures reading { IfErr result (λ fault. fault ≢ Fault.CannotWrite) }
     ensures spared { F.held files.new ≡ F.held files.old }
 {
+    let piped = come(alloc, files, file, check)?;
+    match piped {
+        Piped::Whole(bytes) => log_in(alloc, files, file, bytes, check.skip),
+        Piped::Broken(log) => {
+            remark_skipped(alloc, files, check.skip, &log.bytes);
+            Ok(log)
+        }
+    }
+}
+
+/// What a file has, or as much of standard input as that takes.
+fn come<'a, F: Files>(
+    alloc: Global,
+    files: &mut F,
+    file: &'a str,
+    check: MessageCheck,
+) -> Result<Piped, Fault<'a>>
+    ensures read { IfOk result (HasPiped (F.held files.old) file.entry.now check) }
+    ensures fault { IfErr result (IsTextFault (F.held files.old) file.entry) }
+    ensures spared { F.held files.new ≡ F.held files.old }
+{
+    if is_input(file) && !check.all {
+        return piped_log(alloc, files, file, check);
+    }
     let bytes = text_in(alloc, files, file)?;
+    Ok(Piped::Whole(bytes))
+}
+
+/// Whether standard input is read under this name.
+fn is_input(file: &str) -> bool
+    ensures { result ≡ is_input file.now }
+{
+    file == "-"
+}
+
+/// The log that a file of these bytes stands for.
+fn log_in<'a, F: Files>(
+    alloc: Global,
+    files: &mut F,
+    file: &'a str,
+    bytes: Vec<u8>,
+    skip: bool,
+) -> Result<ReadLog, Fault<'a>>
+    ensures read { IfOk result (λ read. IsLogOf skip bytes.items read.trace.history) }
+    ensures told { IfErr result (IsMeantFault skip bytes.items file.entry) }
+    ensures spared { F.held files.new ≡ F.held files.old }
+{
     let source = bytes.as_slice();
     let Ok(meant) = meant_text(alloc, source, skip) else {
         return Err(Fault::OutOfMemory);
     };
-    if skip {
-        remark_skipped(alloc, files, source);
-    }
+    remark_skipped(alloc, files, skip, source);
     let trace = whole_log(alloc, files, file, source, meant.as_slice(), skip)?;
     Ok(ReadLog {
         bytes,
@@ -177,7 +225,7 @@ fn sourced<'a>(fault: Fault<'a>, bytes: &[u8], skip: bool) -> Fault<'a>
 }
 
 /// The text of the trace that is meant, where messages may have names.
-fn text_meant(alloc: Global, meant: &[u8]) -> Result<Vec<u8>, AllocError>
+pub(crate) fn text_meant(alloc: Global, meant: &[u8]) -> Result<Vec<u8>, AllocError>
     ensures { IfOk result (λ text. text.items ≡ ending.ended (without_names meant.now)) }
 {
     let mut text = without_names(alloc, meant)?;
@@ -185,10 +233,13 @@ fn text_meant(alloc: Global, meant: &[u8]) -> Result<Vec<u8>, AllocError>
     Ok(text)
 }
 
-/// Remarks how many messages were skipped.
-fn remark_skipped<F: Files>(alloc: Global, files: &mut F, bytes: &[u8])
+/// Remarks how many messages were skipped, where they are to be.
+fn remark_skipped<F: Files>(alloc: Global, files: &mut F, skip: bool, bytes: &[u8])
     ensures { F.held files.new ≡ F.held files.old }
 {
+    if !skip {
+        return;
+    }
     let count = foreign_messages(bytes);
     if count != 0 {
         remark(
@@ -338,7 +389,7 @@ fn remark_open<F: Files>(alloc: Global, files: &mut F, text: LogText<'_>, log: &
 }
 
 /// The image, if an I line tells of it.
-fn memory_at_start(trace: &Trace) -> Option<&Image>
+pub(crate) fn memory_at_start(trace: &Trace) -> Option<&Image>
     ensures { option_copied result ≡ memory_told trace.now.history.image }
 {
     let image = trace.image();

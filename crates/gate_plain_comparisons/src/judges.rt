@@ -3,11 +3,14 @@
 
 mod changes;
 mod logs;
+mod messages;
 mod orders;
 mod plain;
+mod shadow;
 mod traces;
 
 use anyhow::{Result, ensure};
+pub use messages::lawful_messages;
 use std::fmt::Debug;
 use std::io::Write;
 use std::rt::Files;

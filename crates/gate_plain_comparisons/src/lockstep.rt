@@ -136,6 +136,11 @@ impl Lockstep {
         })
     }
 
+    /// The machine's trace.
+    pub fn trace(&self) -> &Trace {
+        self.machine.trace()
+    }
+
     /// What a hart's next instruction is going to do.
     fn next_access(&self, hart: u8) -> Option<Action> {
         let views = self.machine.views();

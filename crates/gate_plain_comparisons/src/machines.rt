@@ -9,7 +9,7 @@ mod views;
 
 use crate::numbers::Numbers;
 use anyhow::{Result, bail, ensure};
-use flat::every_flat_event;
+use flat::{Shown, every_flat_event};
 use machine_types::{Event, MemoryModel};
 use met::Met;
 use pair::Pair;
@@ -91,8 +91,12 @@ pub fn play_all<W: Write>(alloc: Global, out: &mut W) -> Result<()> {
 /// Plays the stream of the plain flat machine in sets of one line and of two.
 fn play_flat<W: Write>(alloc: Global, name: &str, model: MemoryModel, out: &mut W) -> Result<()> {
     for ways in 1..=2 {
-        let counts = every_flat_event(alloc, model, ways, EVENTS)?;
+        let Shown { counts, messages } = every_flat_event(alloc, model, ways, EVENTS)?;
         writeln!(out, "flat, {name}, ways {ways}: {counts}")?;
+        writeln!(
+            out,
+            "{messages} messages lawful by both profiles, and by the shadow"
+        )?;
     }
     Ok(())
 }

@@ -1,5 +1,5 @@
 -- Lawful messages, and the first message of another log that breaks a rule.
-use Rattle.std.specs.Prelude.{ℕ, ◌≡◌, ◌+◌, ◌↔◌, Bool, true, false, List, [], ◌∷◌, Option, take}
+use Rattle.std.specs.Prelude.{ℕ, ◌≡◌, ◌+◌, ◌++◌, ◌↔◌, Bool, true, false, List, [], ◌∷◌, Option, take}
 use Rattle.coherent_log.specs.Laws as coherence
 use Rattle.coherent_log.specs.Laws.{IsCoherentLog}
 use Rattle.coherent_log.specs.declared.verdict.CoherenceVerdict.{CoherenceVerdict}
@@ -40,6 +40,11 @@ IfUnlawful (message.Unlawful breach index) P = P breach index
 pub record IsMessageVerdict (profile : Profile) (image : Option Initial) (log : List Logged) (v : MessageVerdict) : Type 0 where
   pub lawful : (v ≡ message.Lawful) ↔ AreLawfulMessages profile image log
   pub unlawful : IfUnlawful v (λ breach index. IsFirstFault profile image log breach index)
+
+-- a log that goes on behind such a message has the same first one
+abbrev pub FirstFaultStays : Type 0
+FirstFaultStays = (profile : Profile) (image : Option Initial) (log more : List Logged) (breach : MessageBreach) (index : ℕ)
+    → IsMessageVerdict profile image log (message.Unlawful breach index) → IsMessageVerdict profile image (log ++ more) (message.Unlawful breach index)
 
 -- each question has its answer too
 abbrev pub AreEndedMessages : Profile → Option Initial → List Logged → Type 0

@@ -1,27 +1,80 @@
 //! Other messages in the place of one.
 
-use tl_types::{Body, Cap, Change, Grow};
+use tl_types::{Body, Cap, Change, Grow, LineData};
 use trace_recorder::Logged;
 
-/// The entry with a message of another kind.
-pub fn of_other_kind(entry: Logged) -> Logged {
-    let mut other = entry;
-    other.message.body = other_kind(entry.message.body);
-    other
+/// What stands in the place of an entry at one end of its message alone.
+pub fn of_one_end(entry: Logged) -> [Option<Logged>; 5] {
+    let mut elsewhere = entry;
+    elsewhere.hart = if entry.hart == 0 { 1 } else { 0 };
+    [
+        Some(elsewhere),
+        with(entry, Some(other_kind(entry.message.body))),
+        with(entry, other_permission(entry.message.body)),
+        with(entry, with_other_bytes(entry.message.body)),
+        with(entry, with_bytes(entry.message.body)),
+    ]
 }
 
-/// The entry with another hart.
-pub fn of_other_hart(entry: Logged) -> Logged {
-    let mut other = entry;
-    other.hart = if entry.hart == 0 { 1 } else { 0 };
-    other
+/// What stands in its place at both ends.
+pub fn of_both_ends(entry: Logged) -> [Option<Logged>; 3] {
+    [
+        with(entry, other_permission(entry.message.body)),
+        with(entry, with_other_bytes(entry.message.body)),
+        with(entry, with_bytes(entry.message.body)),
+    ]
 }
 
-/// The entry with another permission, if its message names one.
-pub fn with_other_permission(entry: Logged) -> Option<Logged> {
+fn with(entry: Logged, body: Option<Body>) -> Option<Logged> {
     let mut other = entry;
-    other.message.body = other_permission(entry.message.body)?;
+    other.message.body = body?;
     Some(other)
+}
+
+// The same with other bytes, if it has some.
+fn with_other_bytes(body: Body) -> Option<Body> {
+    match body {
+        Body::ProbeAckData { change, bytes } => Some(Body::ProbeAckData {
+            change,
+            bytes: other_bytes(bytes),
+        }),
+        Body::ReleaseData { change, bytes } => Some(Body::ReleaseData {
+            change,
+            bytes: other_bytes(bytes),
+        }),
+        Body::GrantData { cap, bytes } => Some(Body::GrantData {
+            cap,
+            bytes: other_bytes(bytes),
+        }),
+        _ => None,
+    }
+}
+
+// The same with bytes, where it has none and may have some.
+fn with_bytes(body: Body) -> Option<Body> {
+    let bytes = LineData::Bytes16([0; 16]);
+    match body {
+        Body::ProbeAck(change) => Some(Body::ProbeAckData { change, bytes }),
+        Body::Release(change) => Some(Body::ReleaseData { change, bytes }),
+        Body::Grant(cap) => Some(Body::GrantData { cap, bytes }),
+        _ => None,
+    }
+}
+
+// The bytes with the last one's lowest bit turned.
+fn other_bytes(bytes: LineData) -> LineData {
+    match bytes {
+        LineData::Bytes16(bytes) => {
+            let mut other = bytes;
+            other[15] ^= 1;
+            LineData::Bytes16(other)
+        }
+        LineData::Bytes64(bytes) => {
+            let mut other = bytes;
+            other[63] ^= 1;
+            LineData::Bytes64(other)
+        }
+    }
 }
 
 // The same kind of message with another permission, if it names one.

@@ -1,16 +1,19 @@
 //! Judges the message logs of kept traces, which are lawful, and each of them with an entry left out,
-//! doubled, exchanged with the next one, or changed in permission, kind or hart, and compares the verdicts
-//! with those of a plain body that counts in the log anew at each entry.
+//! doubled, exchanged with the next one, or changed in permission, bytes, kind or hart, and with a message left out or
+//! changed at both its ends, and compares all breaches with those of plain bodies: one counts in the log anew at each
+//! entry, the other is a shadow of permissions and lines.
 
+use super::changes;
+use super::messages::{Tally, judge};
 use super::traces::Traces;
-use super::{are_alike, changes, plain};
 use anyhow::{Result, bail, ensure};
-use lawful_log::{LogRule, LogVerdict, Profile, check_log};
+use lawful_log::Profile;
+use message_judge::Broken;
 use std::alloc::Global;
 use std::fs;
 use std::io::Write;
 use std::rt::Files;
-use trace_recorder::Logged;
+use trace_recorder::{Direction, Logged};
 
 /// The file has this many traces, one behind another, each of its T line and its log.
 const TRACES: usize = 24;
@@ -23,12 +26,15 @@ static WRONG: [&str; 3] = [
     "grant_without_data_after_a_probe",
 ];
 
-/// How many changed logs were judged, by the rule that they break.
+/// How many changed logs were judged, by the rules that they break.
 #[derive(Drop)]
 struct Judged {
+    changed: usize,
     lawful: usize,
-    /// In the order of `LogRule::ALL`.
-    broken: [usize; 8],
+    /// By the first breach of each.
+    firsts: Tally,
+    /// By all breaches of each that are listed.
+    listed: Tally,
     /// The changed log that is being judged.
     log: Vec<Logged>,
 }
@@ -36,8 +42,10 @@ struct Judged {
 /// Judges each log and its changes, and says how many break which rule.
 pub fn judge_logs<R: Files + AllocGlobal, W: Write>(rt: &R, out: &mut W) -> Result<()> {
     let mut judged = Judged {
+        changed: 0,
         lawful: 0,
-        broken: [0; 8],
+        firsts: Tally::NOTHING,
+        listed: Tally::NOTHING,
         log: Vec::new(rt.alloc()),
     };
     let bytes = fs::read(rt, "logs")?;
@@ -48,19 +56,21 @@ pub fn judge_logs<R: Files + AllocGlobal, W: Write>(rt: &R, out: &mut W) -> Resu
 /// Judges the logs of wrong machines, and says of each which rule it breaks, and at which entry.
 pub fn judge_wrong<R: Files + AllocGlobal, W: Write>(rt: &R, out: &mut W) -> Result<()> {
     for name in &WRONG {
-        match judge_first(rt, name)? {
-            LogVerdict::Lawful => bail!("{name} is lawful"),
-            LogVerdict::Unlawful { rule, index } => writeln!(out, "{name}: {rule} {index}")?,
+        match judge_first(rt, name)?.first() {
+            None => bail!("{name} is lawful"),
+            Some(Broken { breach, index }) => {
+                writeln!(out, "{name}: {} {index}", breach.rule_name())?;
+            }
         }
     }
     Ok(())
 }
 
-// The verdict on the log of the trace that stands first in a file.
-fn judge_first<R: Files + AllocGlobal>(rt: &R, name: &str) -> Result<LogVerdict> {
+// The breaches of the log of the trace that stands first in a file.
+fn judge_first<R: Files + AllocGlobal>(rt: &R, name: &str) -> Result<Vec<Broken>> {
     let bytes = fs::read(rt, name)?;
     let trace = Traces { rest: &bytes }.next(rt.alloc())?;
-    judge(rt.alloc(), trace.log())
+    judge_both(rt.alloc(), trace.log())
 }
 
 impl Judged {
@@ -81,7 +91,7 @@ impl Judged {
         for index in 0..log.len() {
             self.judge_changed(alloc, log, index)?;
         }
-        Ok(judge(alloc, log)? == LogVerdict::Lawful)
+        Ok(judge_both(alloc, log)?.is_empty())
     }
 
     // Judges the log with one entry left out, doubled, exchanged with the next, or changed.
@@ -92,7 +102,12 @@ impl Judged {
         let before = &log[..index];
         let behind = &log[index + 1..];
         self.judge_moved(alloc, before, *entry, behind)?;
-        self.judge_others(alloc, before, *entry, behind)
+        for other in changes::of_one_end(*entry) {
+            if let Some(other) = other {
+                self.judge_joined(alloc, before, &[other], behind)?;
+            }
+        }
+        self.judge_both_ends(alloc, before, *entry, behind)
     }
 
     // Judges the log with the entry left out, doubled or exchanged with the next.
@@ -111,20 +126,32 @@ impl Judged {
         }
     }
 
-    // Judges the log with another entry in the place of one.
-    fn judge_others(
+    // Judges the log with the message left out or changed as it is sent and as it is taken.
+    fn judge_both_ends(
         &mut self,
         alloc: Global,
         before: &[Logged],
         entry: Logged,
         behind: &[Logged],
     ) -> Result<()> {
-        self.judge_joined(alloc, before, &[changes::of_other_kind(entry)], behind)?;
-        self.judge_joined(alloc, before, &[changes::of_other_hart(entry)], behind)?;
-        match changes::with_other_permission(entry) {
-            Some(other) => self.judge_joined(alloc, before, &[other], behind),
-            None => Ok(()),
+        let Some(place) = place_of_taken(entry, behind) else {
+            return Ok(());
+        };
+        let between = behind.get(..place).unwrap_or(&[]);
+        let rest = behind.get(place.saturating_add(1)..).unwrap_or(&[]);
+        self.judge_joined(alloc, before, between, rest)?;
+        for other in changes::of_both_ends(entry) {
+            if let Some(sent) = other {
+                let mut taken = sent;
+                taken.direction = Direction::Taken;
+                self.begin(before, sent)?;
+                self.log.extend_from_slice(between)?;
+                self.log.push(taken)?;
+                self.log.extend_from_slice(rest)?;
+                self.judge_made(alloc)?;
+            }
         }
+        Ok(())
     }
 
     fn judge_joined(
@@ -138,43 +165,58 @@ impl Judged {
         for part in &[before, between, behind] {
             self.log.extend_from_slice(part)?;
         }
-        match judge(alloc, &self.log)? {
-            LogVerdict::Lawful => self.lawful = self.lawful.saturating_add(1),
-            LogVerdict::Unlawful { rule, .. } => self.count_broken(rule),
-        }
+        self.judge_made(alloc)
+    }
+
+    // Begins a changed log.
+    fn begin(&mut self, before: &[Logged], entry: Logged) -> Result<()> {
+        self.log.clear();
+        self.log.extend_from_slice(before)?;
+        self.log.push(entry)?;
         Ok(())
     }
 
-    fn count_broken(&mut self, rule: LogRule) {
-        for (known, number) in LogRule::ALL.iter().zip(&mut self.broken) {
-            if *known == rule {
-                *number = number.saturating_add(1);
-            }
+    // Judges the changed log.
+    fn judge_made(&mut self, alloc: Global) -> Result<()> {
+        let breaches = judge_both(alloc, &self.log)?;
+        self.changed = self.changed.saturating_add(1);
+        match breaches.first() {
+            None => self.lawful = self.lawful.saturating_add(1),
+            Some(first) => self.firsts.count(&first.breach),
         }
+        for broken in &breaches {
+            self.listed.count(&broken.breach);
+        }
+        Ok(())
     }
 
     fn print<W: Write>(&self, out: &mut W) -> Result<()> {
         writeln!(
             out,
-            "{TRACES} logs are lawful; of their changed logs, judged alike, so many are"
+            "{TRACES} logs are lawful; of their {} changes, judged alike, so many are",
+            self.changed
         )?;
         writeln!(out, "lawful {}", self.lawful)?;
-        for (rule, number) in LogRule::ALL.iter().zip(&self.broken) {
-            writeln!(out, "{rule} {number}")?;
-        }
-        Ok(())
+        writeln!(
+            out,
+            "unlawful first by each rule, and so many messages of all by it"
+        )?;
+        self.firsts.print_beside(&self.listed, out)
     }
 }
 
-// The verdict on a log; it fails where the two bodies answer differently.
-fn judge(alloc: Global, log: &[Logged]) -> Result<LogVerdict> {
-    judge_by(alloc, Profile::TileLink, log)?;
-    judge_by(alloc, Profile::Machine, log)
+// Where the message that the entry sends is taken, if it is.
+fn place_of_taken(entry: Logged, behind: &[Logged]) -> Option<usize> {
+    if entry.direction == Direction::Taken {
+        return None;
+    }
+    behind.iter().position(|other| other.direction == Direction::Taken
+        && other.hart == entry.hart
+        && other.message == entry.message)
 }
 
-fn judge_by(alloc: Global, profile: Profile, log: &[Logged]) -> Result<LogVerdict> {
-    let verdict = check_log(alloc, profile, log)?;
-    let plain = plain::judge(profile, log);
-    are_alike(&verdict, &plain)?;
-    Ok(verdict)
+// The breaches of a log by this machine's rules; it fails where bodies tell others, also by TileLink's.
+fn judge_both(alloc: Global, log: &[Logged]) -> Result<Vec<Broken>> {
+    judge(alloc, Profile::TileLink, None, log)?;
+    judge(alloc, Profile::Machine, None, log)
 }

@@ -1,6 +1,6 @@
 //! The rules of the lawful log read off the whole log before each entry, by counting in it anew.
 
-use lawful_log::{LogRule, LogVerdict, Profile};
+use lawful_log::{LogRule, Profile};
 use tl_types::{Body, Cap, Change, Grow};
 use trace_recorder::{Direction, Logged};
 
@@ -30,17 +30,8 @@ impl Kind {
     }
 }
 
-/// The first entry that breaks a rule, and the first of the rules that it breaks.
-pub fn judge(profile: Profile, log: &[Logged]) -> LogVerdict {
-    for (index, entry) in log.iter().enumerate() {
-        if let Some(rule) = first_broken(profile, &log[..index], entry) {
-            return LogVerdict::Unlawful { rule, index };
-        }
-    }
-    LogVerdict::Lawful
-}
-
-fn first_broken(profile: Profile, before: &[Logged], entry: &Logged) -> Option<LogRule> {
+/// The first rule that the entry breaks behind those before it.
+pub fn first_broken(profile: Profile, before: &[Logged], entry: &Logged) -> Option<LogRule> {
     if entry.direction == Direction::Taken {
         return if is_front(before, entry) {
             None

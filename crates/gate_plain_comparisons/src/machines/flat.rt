@@ -2,6 +2,7 @@
 
 use super::WORD;
 use super::pair::image_of_words;
+use crate::judges::lawful_messages;
 use crate::lockstep::{Counts, Failures, Lockstep};
 use crate::numbers::Numbers;
 use anyhow::{Context, Result, bail, ensure};
@@ -77,17 +78,27 @@ fn event_of(number: u32) -> Event {
     Event::Deliver { channel, hart }
 }
 
+/// What a stream came to.
+#[derive(Clone, Copy)]
+pub struct Shown {
+    pub counts: Counts,
+    /// The messages of the machine's log.
+    pub messages: usize,
+}
+
 /// Plays so many events of the stream, and fails at the first difference, or where no SC succeeds, or none
-/// fails for no reason that a program shows.
+/// fails for no reason that a program shows, or where a message isn't lawful.
 pub fn every_flat_event(
     alloc: Global,
     model: MemoryModel,
     ways: u32,
     events: u32,
-) -> Result<Counts> {
+) -> Result<Shown> {
     let config = Config::new(2, 1, ways, LineSize::Bytes16, model).context("a configuration")?;
     let mut lockstep = at_reset(alloc, config)?;
-    play(&mut lockstep, events)
+    let counts = play(&mut lockstep, events)?;
+    let messages = lawful_messages(alloc, lockstep.trace())?;
+    Ok(Shown { counts, messages })
 }
 
 fn at_reset(alloc: Global, config: Config) -> Result<Lockstep> {
