@@ -72,8 +72,8 @@ page_ready names = record {
 
 run_ready : (names : ModelNames) → IsReady names run
 run_ready names = record {
-  sound = ((refl, tt), ((refl, refl), ((refl, refl), ((refl, refl), ((refl, refl), ((refl, refl), ((refl, tt), ((refl, refl), ((refl, tt), ((refl, tt), tt))))))))));
-  built = (1, refl, (1, refl, (1, refl, (1, refl, (1, refl, (1, refl, (1, refl, (1, refl, (1, refl, (1, refl, (2, refl)))))))))));
+  sound = ((refl, tt), ((refl, refl), ((refl, refl), ((refl, refl), ((refl, refl), ((refl, refl), ((refl, tt), ((refl, refl), ((refl, tt), ((refl, tt), ((refl, tt), tt)))))))))));
+  built = (1, refl, (1, refl, (1, refl, (1, refl, (1, refl, (1, refl, (1, refl, (1, refl, (1, refl, (1, refl, (1, refl, (2, refl))))))))))));
   named = refl;
   alone = refl;
   no_override = refl;
@@ -84,9 +84,9 @@ explore_ready : (names : ModelNames) → IsReady names explore
 explore_ready names = record {
   sound = (
     (refl, tt),
-    ((refl, refl), ((refl, refl), ((refl, refl), ((refl, refl), ((refl, refl), ((refl, tt), ((refl, refl), ((refl, tt), ((refl, tt), ((refl, tt), ((refl, tt), ((refl, tt), ((refl, refl), ((refl, refl), ((refl, tt), ((refl, refl), ((refl, tt), ((refl, tt), tt)))))))))))))))))),
+    ((refl, refl), ((refl, refl), ((refl, refl), ((refl, refl), ((refl, refl), ((refl, tt), ((refl, refl), ((refl, tt), ((refl, tt), ((refl, tt), ((refl, tt), ((refl, tt), ((refl, refl), ((refl, refl), ((refl, refl), ((refl, tt), ((refl, tt), ((refl, refl), ((refl, tt), ((refl, tt), tt)))))))))))))))))))),
   );
-  built = (1, refl, (1, refl, (1, refl, (1, refl, (1, refl, (1, refl, (1, refl, (1, refl, (1, refl, (1, refl, (1, refl, (1, refl, (1, refl, (1, refl, (1, refl, (1, refl, (1, refl, (1, refl, (1, refl, (2, refl))))))))))))))))))));
+  built = (1, refl, (1, refl, (1, refl, (1, refl, (1, refl, (1, refl, (1, refl, (1, refl, (1, refl, (1, refl, (1, refl, (1, refl, (1, refl, (1, refl, (1, refl, (1, refl, (1, refl, (1, refl, (1, refl, (1, refl, (1, refl, (2, refl))))))))))))))))))))));
   named = refl;
   alone = refl;
   no_override = refl;
@@ -95,8 +95,8 @@ explore_ready names = record {
 
 fences_ready : (names : ModelNames) → IsReady names fences
 fences_ready names = record {
-  sound = ((refl, tt), ((refl, refl), ((refl, refl), ((refl, refl), ((refl, refl), ((refl, refl), ((refl, tt), ((refl, refl), ((refl, refl), ((refl, tt), ((refl, tt), ((refl, tt), ((refl, tt), ((refl, tt), tt))))))))))))));
-  built = (1, refl, (1, refl, (1, refl, (1, refl, (1, refl, (1, refl, (1, refl, (1, refl, (1, refl, (1, refl, (1, refl, (1, refl, (1, refl, (1, refl, (2, refl)))))))))))))));
+  sound = ((refl, tt), ((refl, refl), ((refl, refl), ((refl, refl), ((refl, refl), ((refl, refl), ((refl, tt), ((refl, refl), ((refl, refl), ((refl, refl), ((refl, tt), ((refl, tt), ((refl, tt), ((refl, tt), ((refl, tt), ((refl, tt), tt))))))))))))))));
+  built = (1, refl, (1, refl, (1, refl, (1, refl, (1, refl, (1, refl, (1, refl, (1, refl, (1, refl, (1, refl, (1, refl, (1, refl, (1, refl, (1, refl, (1, refl, (1, refl, (2, refl)))))))))))))))));
   named = refl;
   alone = refl;
   no_override = refl;

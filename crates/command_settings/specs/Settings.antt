@@ -1,12 +1,12 @@
 -- What the program's words ask for, as the kit reads the words for the program's usage.
-use Rattle.std.specs.Prelude.{ℕ, ◌≡◌, ◌≢◌, ◌==◌, ◌<◌, ◌≤◌, ◌∷◌, ◌&&◌, ◌||◌, ◌⊎◌, [], Bool, true, false, IsSomeAnd, List, None, Option, Some, codes, if◌then◌else◌, is_some, map, not, option_map, unwrap_or}
+use Rattle.std.specs.Prelude.{ℕ, ◌≡◌, ◌≢◌, ◌==◌, ◌<◌, ◌≤◌, ◌∷◌, ◌&&◌, ◌||◌, ◌⊎◌, [], Bool, true, false, IsSomeAnd, List, None, Option, Some, codes, if◌then◌else◌, is_some, map, nat_lt, not, option_map, unwrap_or}
 use Rattle.std.specs.Borrow.{Bor}
 use Rattle.std.specs.List.{list_all, list_any, slice_split}
 use Rattle.std.specs.Str.{bytes_eq}
 use Rattle.std.specs.Str.Parse.{IsNumeral, digits_value, without_leading_plus}
 use Rattle.clap.specs.Values.{IsUnsignedIn}
 use Rattle.clap.specs.Words.{App, Row, Text, all_of, first_of, one_of, subcommand_of}
-use Rattle.command_settings.specs.Usage.{Argument, IsUsage, Subcommand, least_limit, least_window, most_limit, most_size, most_window, subcommands}
+use Rattle.command_settings.specs.Usage.{Argument, IsUsage, Subcommand, least_limit, least_window, most_limit, most_size, most_threads, most_window, subcommands}
 use Rattle.command_settings.specs.declared.wanted.Audit.{Audit}
 use Rattle.command_settings.specs.declared.wanted.Breaches.{Breaches}
 use Rattle.command_settings.specs.declared.wanted.Breaches.TheVariants.{All, First}
@@ -25,6 +25,8 @@ use Rattle.command_settings.specs.declared.wanted.Show.{Show}
 use Rattle.command_settings.specs.declared.wanted.Settings.TheVariants as settings
 use Rattle.command_settings.specs.declared.wanted.Subject.{Subject}
 use Rattle.command_settings.specs.declared.wanted.Subject.TheVariants.{Machine, Model}
+use Rattle.message_pattern.specs.Reading.{pattern_in}
+use Rattle.message_pattern.specs.declared.pattern.MessagePattern.{MessagePattern}
 use Rattle.machine_types.specs.declared.model.MemoryModel.{MemoryModel}
 use Rattle.machine_types.specs.declared.model.MemoryModel.TheVariants.{Rvwmo, Ztso}
 
@@ -100,6 +102,7 @@ pub record IsRunMeant (rows : List Row) (run : Run) : Type 0 where
   pub least : least_limit ≤ run.limit
   pub most : run.limit ≤ most_limit
   pub journal : IsText (codes "journal") rows run.journal.now
+  pub fail_on : IsOptional (codes "fail-on") rows run.fail_on
   pub image : IsText (codes "IMAGE") rows run.image.now
 
 -- the arguments of `explore` have these texts, and these numbers in their ranges
@@ -112,8 +115,10 @@ pub record IsExploreMeant (rows : List Row) (explore : Explore) : Type 0 where
   pub allow : IsOptional (codes "allow") rows explore.allow
   pub fail_on : IsOptional (codes "fail-on") rows explore.fail_on
   pub first : IsFlag (codes "first") rows explore.first
+  pub seconds : IsNumberIn (codes "seconds") 0 most_limit rows explore.seconds
   pub sample : IsNumberIn (codes "sample") 0 most_limit rows explore.sample
   pub seed : IsNumberIn (codes "seed") 0 most_size rows explore.seed
+  pub until : IsOptional (codes "until") rows explore.until
   pub architecture : IsFlag (codes "architecture") rows explore.architecture
   pub window : IsNumberIn (codes "window") least_window most_window rows explore.window
   pub image : IsText (codes "IMAGE") rows explore.image.now
@@ -129,8 +134,10 @@ pub record IsFencesMeant (rows : List Row) (fences : Fences) : Type 0 where
   pub machine : IsMachineMeant rows fences.machine
   pub states : IsNumberIn (codes "states") least_limit most_limit rows fences.states
   pub window : IsNumberIn (codes "window") least_window most_window rows fences.window
+  pub threads : IsNumberIn (codes "threads") 0 most_threads rows fences.threads
   pub allow : IsOptional (codes "allow") rows fences.allow
   pub subject : IsFlag (codes "machine") rows (is_machine fences.subject)
+  pub scripts : IsOptional (codes "scripts") rows fences.scripts
   pub write : IsOptional (codes "write") rows fences.write
   pub image : IsText (codes "IMAGE") rows fences.image.now
 
@@ -235,8 +242,46 @@ IsBlind explore = (lists (codes "stuck") explore.fail_on ≡ true) × ((explore.
 abbrev pub IsUnknown : Explore → Type 0
 IsUnknown explore = IsSomeAnd explore.fail_on (λ list. are_conditions list.now ≡ false)
 
+-- random runs of the machine are asked for, and a search to end by the clock: one of them has to be left out
+abbrev pub IsUntimed : Explore → Type 0
+IsUntimed explore = (0 < explore.seconds) × (0 < explore.sample)
+
+-- what is asked of a program's ends: what the memory model allows, which of them are wanted, where they are kept, how long they are looked for
+abbrev pub asks_of_ends : Explore → Bool
+asks_of_ends explore =
+    explore.architecture || (explore.first || (is_some explore.scripts || (is_some explore.allow || (is_some explore.fail_on || nat_lt 0 explore.seconds))))
+
+-- a message is looked for, and not a program's ends, of which something is asked
+abbrev pub IsMixed : Explore → Type 0
+IsMixed explore = (is_some explore.until ≡ true) × (asks_of_ends explore ≡ true)
+
+-- the message that is looked for, where the text that was given spells one: a name, a hart and an address, or `*` for any
+abbrev pub message_in : Option (Bor Text) → Option MessagePattern
+message_in None = None
+message_in (Some text) = pattern_in text.now
+
+-- a message is looked for, and its text spells none
+abbrev pub IsUnread : Explore → Type 0
+IsUnread explore = (is_some explore.until ≡ true) × (message_in explore.until ≡ None)
+
 abbrev pub HasConflict : Explore → Type 0
-HasConflict explore = IsTwofold explore ⊎ (IsUnsearched explore ⊎ (IsUnknown explore ⊎ IsBlind explore))
+HasConflict explore = IsTwofold explore ⊎ (IsUnsearched explore ⊎ (IsUnknown explore ⊎ (IsBlind explore ⊎ (IsUntimed explore ⊎ (IsMixed explore ⊎ IsUnread explore)))))
+
+-- words of memory are to be shown at a program's ends, and a message is looked for
+abbrev pub ShowsNoEnd : Explore → Type 0
+ShowsNoEnd explore = is_some explore.until ≡ true
+
+-- a run is to fail on what there isn't: what it may fail on is a hart that stops
+abbrev pub is_stop : Text → Bool
+is_stop word = bytes_eq word (codes "stop")
+
+-- it is to fail on that
+abbrev pub fails_on_stop : Option (Bor Text) → Bool
+fails_on_stop None = false
+fails_on_stop (Some word) = is_stop word.now
+
+abbrev pub IsUnstopping : Run → Type 0
+IsUnstopping run = IsSomeAnd run.fail_on (λ word. is_stop word.now ≡ false)
 
 -- whose rules messages are judged by: this machine's, or TileLink's
 abbrev pub is_profile : Text → Bool
@@ -261,7 +306,8 @@ IsBesideMessages check = (check.messages ≡ false) × (asks_of_messages check �
 
 abbrev pub AreConflicting : Settings → Type 0
 AreConflicting (settings.Explore explore) = HasConflict explore
-AreConflicting (settings.Show show) = HasConflict show.explore
+AreConflicting (settings.Show show) = ShowsNoEnd show.explore ⊎ HasConflict show.explore
+AreConflicting (settings.Run run) = IsUnstopping run
 AreConflicting (settings.Check check) = IsBesideMessages check ⊎ HasNoRules check
 AreConflicting _ = ⊥
 

@@ -116,17 +116,18 @@ machine_arguments =
     ∷ model
     ∷ []
 
--- `[--raw]`, those of a machine, and `[--limit N] --journal FILE IMAGE`
+-- `[--raw]`, those of a machine, and `[--limit N] --journal FILE [--fail-on stop] IMAGE`
 abbrev pub run_arguments : List Argument
 run_arguments =
     flag (codes "raw")
     ∷ machine_arguments
     ++ number (codes "limit") (codes "1000000") least_limit most_limit
     ∷ required_option (codes "journal")
+    ∷ optional (codes "fail-on")
     ∷ file (codes "IMAGE")
     ∷ []
 
--- `[--states LIMIT] [--scripts FOLDER] [--whole] [--allow FILE] [--fail-on LIST] [--first]`
+-- `[--states LIMIT] [--scripts FOLDER] [--whole] [--allow FILE] [--fail-on LIST] [--first] [--seconds N]`
 abbrev pub search_arguments : List Argument
 search_arguments =
     number (codes "states") (codes "4000000") least_limit most_limit
@@ -135,11 +136,12 @@ search_arguments =
     ∷ optional (codes "allow")
     ∷ optional (codes "fail-on")
     ∷ flag (codes "first")
+    ∷ number (codes "seconds") (codes "0") 0 most_limit
     ∷ []
 
--- `[--sample RUNS] [--seed S]`
+-- `[--sample RUNS] [--seed S] [--until MESSAGE]`
 abbrev pub sample_arguments : List Argument
-sample_arguments = number (codes "sample") (codes "0") 0 most_limit ∷ number (codes "seed") (codes "1") 0 most_size ∷ []
+sample_arguments = number (codes "sample") (codes "0") 0 most_limit ∷ number (codes "seed") (codes "1") 0 most_size ∷ optional (codes "until") ∷ []
 
 -- the range of `--window`
 abbrev pub least_window : ℕ
@@ -147,6 +149,10 @@ least_window = 1
 
 abbrev pub most_window : ℕ
 most_window = 64
+
+-- the greatest number of `--threads`
+abbrev pub most_threads : ℕ
+most_threads = 64
 
 -- `[--architecture] [--window N]`
 abbrev pub window_arguments : List Argument
@@ -157,15 +163,17 @@ abbrev pub explore_arguments : List Argument
 explore_arguments =
     flag (codes "raw") ∷ machine_arguments ++ search_arguments ++ sample_arguments ++ window_arguments ++ repeated (codes "show") ∷ file (codes "IMAGE") ∷ []
 
--- `[--raw]`, those of a machine, and `[--states LIMIT] [--window N] [--allow FILE] [--machine] [--write FILE] [--show ADDRESS|SYMBOL].. IMAGE`
+-- `[--raw]`, those of a machine, and `[--states LIMIT] [--window N] [--threads N] [--allow FILE] [--machine] [--scripts FOLDER] [--write FILE] [--show ADDRESS|SYMBOL].. IMAGE`
 abbrev pub fences_arguments : List Argument
 fences_arguments =
     flag (codes "raw")
     ∷ machine_arguments
     ++ number (codes "states") (codes "4000000") least_limit most_limit
     ∷ number (codes "window") (codes "16") least_window most_window
+    ∷ number (codes "threads") (codes "0") 0 most_threads
     ∷ optional (codes "allow")
     ∷ flag (codes "machine")
+    ∷ optional (codes "scripts")
     ∷ optional (codes "write")
     ∷ repeated (codes "show")
     ∷ file (codes "IMAGE")

@@ -2,11 +2,12 @@
 
 ghost use Rattle.std.specs.Prelude.{◌≡◌, IfOk, codes, false, true};
 ghost use Rattle.clap.specs.Words.{App, Rule, app_of, new_app, rule_of, with_rule, with_subcommand};
-ghost use Rattle.command_settings.specs.Usage.{AreModelNames, ModelNames, IsUsage, app_for, chart, check, explain, explore, fences, file_rule, flag_rule, least_limit, least_window, machine_arguments, model_rule, most_limit, most_size, most_window, named_rule, number_rule, optional_rule, page, repeated_rule, replay, replay_arguments, required_rule, run, sample_arguments, search_arguments, window_arguments, with_arguments};
+ghost use Rattle.command_settings.specs.Usage.{AreModelNames, ModelNames, IsUsage, app_for, chart, check, explain, explore, fences, file_rule, flag_rule, least_limit, least_window, machine_arguments, model_rule, most_limit, most_size, most_threads, most_window, named_rule, number_rule, optional_rule, page, repeated_rule, replay, replay_arguments, required_rule, run, sample_arguments, search_arguments, window_arguments, with_arguments};
 
 use crate::help::{
     ALLOW_HELP, CHART_HELP, CHECK_HELP, EXPLAIN_HELP, EXPLORE_HELP, FAIL_ON_HELP, FENCES_HELP,
-    LINE_HELP, PAGE_HELP, PROGRAM_HELP, REPLAY_HELP, RUN_HELP, SCRIPTS_HELP, SHOW_HELP,
+    LINE_HELP, PAGE_HELP, PROGRAM_HELP, REPLAY_HELP, RUN_HELP, SCRIPTS_HELP, SHOW_HELP, UNTIL_HELP,
+    WITNESSES_HELP,
 };
 use clap::builder::ValueParser;
 use clap::{Arg, ArgAction, Command};
@@ -24,8 +25,14 @@ const LIMIT_RANGE: (u64, u64) = (1, 1_000_000_000);
 /// The least and the greatest number of random runs.
 const SAMPLE_RANGE: (u64, u64) = (0, 1_000_000_000);
 
+/// The least and the greatest number of seconds.
+const SECONDS_RANGE: (u64, u64) = (0, 1_000_000_000);
+
 /// The least and the greatest number of a hart's operations that may wait at a time.
 const WINDOW_RANGE: (u64, u64) = (1, 64);
+
+/// The least and the greatest number of searches side by side, where 0 stands for as many as there are processors.
+const THREADS_RANGE: (u64, u64) = (0, 64);
 
 /// The greatest number of a machine's size, or of what random runs begin from.
 const MOST: u64 = 4_294_967_295;
@@ -127,6 +134,7 @@ fn run_command<'a>(alloc: Global, models: &'a [&'a str]) -> Result<Command<'a>, 
     let command = with_machine(alloc, models, command);
     let command = add_arg(command, limit(alloc));
     let command = add_arg(command, journal(alloc));
+    let command = add_arg(command, fail_on_stop(alloc));
     add_arg(command, image(alloc))
 }
 
@@ -152,8 +160,10 @@ fn fences_command<'a>(alloc: Global, models: &'a [&'a str]) -> Result<Command<'a
     let command = with_machine(alloc, models, command);
     let command = add_arg(command, states(alloc));
     let command = add_arg(command, window(alloc));
+    let command = add_arg(command, threads(alloc));
     let command = add_arg(command, allow(alloc));
     let command = add_arg(command, machine_outcomes(alloc));
+    let command = add_arg(command, witnesses(alloc));
     let command = add_arg(command, written(alloc));
     let command = add_arg(command, show(alloc));
     add_arg(command, image(alloc))
@@ -221,7 +231,8 @@ fn with_search<'a>(
     let command = add_arg(command, whole(alloc));
     let command = add_arg(command, allow(alloc));
     let command = add_arg(command, fail_on(alloc));
-    add_arg(command, first(alloc))
+    let command = add_arg(command, first(alloc));
+    add_arg(command, seconds(alloc))
 }
 
 /// Random runs in place of a search.
@@ -233,7 +244,8 @@ fn with_sample<'a>(
         → IfOk result (λ made. app_of made ≡ with_arguments names app sample_arguments) }
 {
     let command = add_arg(command, sample(alloc));
-    add_arg(command, seed(alloc))
+    let command = add_arg(command, seed(alloc));
+    add_arg(command, until(alloc))
 }
 
 /// A search of what the memory model allows.
@@ -385,6 +397,20 @@ fn window<'a>(alloc: Global) -> Arg<'a>
     )
 }
 
+fn threads<'a>(alloc: Global) -> Arg<'a>
+    ensures rule { rule_of result ≡ number_rule (codes "threads") (codes "0") 0 most_threads }
+    ensures local { result.global ≡ false }
+{
+    number(
+        alloc,
+        "threads",
+        "N",
+        "0",
+        THREADS_RANGE,
+        "how many searches go side by side, 1 to 64, or 0 for as many as there are processors; what is told is the same",
+    )
+}
+
 fn scripts<'a>(alloc: Global) -> Arg<'a>
     ensures rule { rule_of result ≡ optional_rule (codes "scripts") }
     ensures local { result.global ≡ false }
@@ -428,6 +454,39 @@ fn first<'a>(alloc: Global) -> Arg<'a>
     )
 }
 
+fn fail_on_stop<'a>(alloc: Global) -> Arg<'a>
+    ensures rule { rule_of result ≡ optional_rule (codes "fail-on") }
+    ensures local { result.global ≡ false }
+{
+    optional(
+        alloc,
+        "fail-on",
+        "stop",
+        "what the run may not come to: stop (a hart stopped); where it comes to it the status is 3",
+    )
+}
+
+fn seconds<'a>(alloc: Global) -> Arg<'a>
+    ensures rule { rule_of result ≡ number_rule (codes "seconds") (codes "0") 0 most_limit }
+    ensures local { result.global ≡ false }
+{
+    number(
+        alloc,
+        "seconds",
+        "N",
+        "0",
+        SECONDS_RANGE,
+        "how many seconds the search may take before it ends, to 1000000000, where it isn't 0",
+    )
+}
+
+fn until<'a>(alloc: Global) -> Arg<'a>
+    ensures rule { rule_of result ≡ optional_rule (codes "until") }
+    ensures local { result.global ≡ false }
+{
+    optional(alloc, "until", "MESSAGE", UNTIL_HELP)
+}
+
 fn show<'a>(alloc: Global) -> Arg<'a>
     ensures rule { rule_of result ≡ repeated_rule (codes "show") }
     ensures local { result.global ≡ false }
@@ -444,6 +503,13 @@ fn machine_outcomes<'a>(alloc: Global) -> Arg<'a>
         "machine",
         "ask for the outcomes that this machine shows, in place of those that the memory model allows",
     )
+}
+
+fn witnesses<'a>(alloc: Global) -> Arg<'a>
+    ensures rule { rule_of result ≡ optional_rule (codes "scripts") }
+    ensures local { result.global ≡ false }
+{
+    optional(alloc, "scripts", "FOLDER", WITNESSES_HELP)
 }
 
 fn written<'a>(alloc: Global) -> Arg<'a>

@@ -160,9 +160,11 @@ from which no schedule ends. The last line is
   complete: N outcomes, M states      no order that the memory model allows brings the program to another end
 or incomplete: and the limit that was met. With --sample, random runs are made and counted instead, each of
 at most 1,000,000 tried events, and the last line is sampled: RUNS runs, not complete; --architecture,
---show or --first don't go with it.
---seed says nothing without --sample, --whole nothing without --scripts, --window nothing without --architecture,
---states nothing with --sample.
+--show, --first or --seconds don't go with it. With --until such runs are looked through for a message, and the
+script of the shortest way to it is printed, without events that it doesn't need, or with --whole with them;
+standard error tells its run. Nothing that is said of ends goes with it.
+--seed says nothing without --sample or --until, --whole nothing without --scripts or --until, --window nothing
+without --architecture, --states nothing with --sample or --until.
 
 Example: rvtl explore --harts 2 examples/dekker.elf";
 
@@ -200,11 +202,17 @@ pub(crate) const SHOW_HELP: &str =
 pub(crate) const SCRIPTS_HELP: &str =
     "the folder, which has to exist, to write outcome-1.script .., failure-1.script .. and stuck.script into, each for replay; and outcome-1.trace .., each for check, of outcomes that this machine wasn't found to show. Other files there stay, also those of an earlier search";
 
+pub(crate) const WITNESSES_HELP: &str =
+    "the folder, which has to exist, to write a run into for each ordering that is told as needed, with that ordering left out: needed-1.trace .., each for check, in the order of the lines told, or with --machine needed-1.script .., each for replay. Other files there stay, also those of an earlier search";
+
 pub(crate) const ALLOW_HELP: &str =
     "the file with the allowed outcomes, a line each as printed, with or without its number, and with a * for any number in it; where another is found it is told and the status is 3";
 
 pub(crate) const FAIL_ON_HELP: &str =
     "what the search may not come to, with a comma between each two: failure (a hart stopped, whatever the others do then; with --architecture or --sample only in an outcome), stuck (from some state no schedule ends), incomplete (not all was searched); where it comes to one it is told and the status is 3";
+
+pub(crate) const UNTIL_HELP: &str =
+    "make random runs, 1000 or as many as --sample says, and print the shortest script found that sends this message: its name and hart and an address in its line, as in a trace, and * for any of them, as 'ReleaseData 0 *'; where none of the runs sends it the status is 3";
 
 pub(crate) const CHECK_HELP: &str =
     "Prints legal, or with status 3 a fault: its code and two operations, as HART:PLACE, that show it.

@@ -20,6 +20,9 @@ use std::convert::AsStr;
 /// How an exploration is asked for.
 const EXPLORE_USAGE: &str = "rvtl explore [OPTIONS] <IMAGE>";
 
+/// How a run is asked for.
+const RUN_USAGE: &str = "rvtl run [OPTIONS] --journal <FILE> <IMAGE>";
+
 /// How a check is asked for.
 const CHECK_USAGE: &str = "rvtl check [OPTIONS] <TRACE>";
 
@@ -65,7 +68,7 @@ fn without_subcommand(command: &mut Command<'_>) -> SettingsError {
     }
 }
 
-/// The settings, unless they don't go together: only those of an exploration and of a check may not.
+/// The settings, unless they don't go together: only those of a run, of an exploration and of a check may not.
 fn agreeing<'a>(alloc: Global, settings: Settings<'a>) -> Result<Settings<'a>, SettingsError>
     ensures same { IfOk result (λ agreed. agreed ≡ settings.entry) }
     ensures agreeing { IfOk result (λ agreed. AreConflicting agreed → ⊥) }
@@ -84,6 +87,7 @@ fn agreeing<'a>(alloc: Global, settings: Settings<'a>) -> Result<Settings<'a>, S
 fn usage_of(settings: &Settings<'_>) -> (&'static str, &'static str) {
     match settings {
         Settings::Check(_) => ("check", CHECK_USAGE),
+        Settings::Run(_) => ("run", RUN_USAGE),
         _ => ("explore", EXPLORE_USAGE),
     }
 }
@@ -222,6 +226,7 @@ fn run_of<'a>(matches: &ArgMatches<'a>) -> Option<Run<'a>>
         machine: machine_of(matches)?,
         limit: number_of(matches, "limit")?,
         journal: matches.get_str("journal")?,
+        fail_on: matches.get_str("fail-on"),
         image: matches.get_str("IMAGE")?,
     })
 }
@@ -240,8 +245,10 @@ fn explore_of<'a>(matches: &ArgMatches<'a>) -> Option<Explore<'a>>
         allow: matches.get_str("allow"),
         fail_on: matches.get_str("fail-on"),
         first: matches.get_flag("first"),
+        seconds: number_of(matches, "seconds")?,
         sample: number_of(matches, "sample")?,
         seed: number_of(matches, "seed")?,
+        until: matches.get_str("until"),
         architecture: matches.get_flag("architecture"),
         window: number_of(matches, "window")?,
         image: matches.get_str("IMAGE")?,
@@ -269,8 +276,10 @@ fn fences_of<'a>(matches: &ArgMatches<'a>) -> Option<Fences<'a>>
         machine: machine_of(matches)?,
         states: number_of(matches, "states")?,
         window: number_of(matches, "window")?,
+        threads: number_of(matches, "threads")?,
         allow: matches.get_str("allow"),
         subject: subject_of(matches),
+        scripts: matches.get_str("scripts"),
         write: matches.get_str("write"),
         image: matches.get_str("IMAGE")?,
     })

@@ -1,10 +1,11 @@
 //! What the words of the command line ask for.
 
 ghost use Rattle.std.specs.Prelude.{◌↔◌, ◌≡◌, ◌⊎◌, IsSome, IsTrue};
-ghost use Rattle.command_settings.specs.Settings.{AreConflicting, HasConflict, HasNoRules, IsBesideMessages, IsBlind, IsTwofold, IsUnknown, IsUnsearched, are_all, are_conditions, are_skipped, asks_of_messages, asks_tilelink, has_word, is_condition, is_profile, lists, shortens};
+ghost use Rattle.command_settings.specs.Settings.{AreConflicting, HasConflict, HasNoRules, IsBesideMessages, IsBlind, IsMixed, IsTwofold, IsUnknown, IsUnread, IsUnsearched, IsUnstopping, IsUntimed, ShowsNoEnd, are_all, are_conditions, are_skipped, asks_of_ends, asks_of_messages, asks_tilelink, fails_on_stop, has_word, is_condition, is_profile, is_stop, lists, message_in, shortens};
 
 use clap::error::ErrorKind;
 use machine_types::MemoryModel;
+use message_pattern::{MessagePattern, pattern_in};
 use std::alloc::AllocError;
 use thiserror::Error;
 
@@ -23,6 +24,20 @@ const UNSEARCHED: &str =
 /// What to do where a search is to fail on what there isn't.
 const UNKNOWN: &str =
     "--fail-on takes failure, stuck or incomplete, or several of them with a comma between each two";
+
+/// What to do where random runs are to be made, and a search to end by the clock.
+const UNTIMED: &str = "--seconds ends a search: leave it out, or else --sample";
+
+/// What to do where a message is looked for, and something asked of a program's ends.
+const MIXED: &str =
+    "--until looks for a message in random runs, and goes with --sample, --seed and --whole: leave it out, or what is said of a program's ends";
+
+/// What to do where no message is named that could be looked for.
+const UNREAD: &str =
+    "--until takes a message's name, hart and an address in its line as in a trace, or * for any of them, as 'ReleaseData 0 *' or 'GrantAck * 0x80000100'";
+
+/// What to do where a run is to fail on what there isn't.
+const UNSTOPPING: &str = "--fail-on of a run takes stop";
 
 /// What to do where messages are to be judged by rules that there aren't.
 const NO_PROFILE: &str = "--profile takes machine or tilelink";
@@ -68,7 +83,38 @@ pub struct Run<'a> {
     /// After how many events, those that change nothing among them, the run ends: 1 to 1000000000.
     pub limit: u32,
     pub journal: &'a str,
+    /// What the run may not come to: `stop`.
+    pub fail_on: Option<&'a str>,
     pub image: &'a str,
+}
+
+impl Run<'_> {
+    /// Whether the run may not come to a hart that stops.
+    pub fn fails_on_stop(&self) -> bool
+        ensures { result ≡ fails_on_stop self.now.fail_on }
+    {
+        match self.fail_on {
+            Some(word) => is_stop(word),
+            None => false,
+        }
+    }
+
+    /// What doesn't go together, and what to do, if there is anything.
+    fn conflict(&self) -> Option<&'static str>
+        ensures { IsSome result ↔ IsUnstopping self.now }
+    {
+        match self.fail_on {
+            Some(word) if !is_stop(word) => Some(UNSTOPPING),
+            _ => None,
+        }
+    }
+}
+
+/// Whether this is what a run can come to.
+fn is_stop(word: &str) -> bool
+    ensures { result ≡ is_stop word.now }
+{
+    word == "stop"
 }
 
 /// Replay, and tell of each event what it did.
@@ -109,10 +155,14 @@ pub struct Explore<'a> {
     pub fail_on: Option<&'a str>,
     /// The search ends at the first failure, and at the first outcome that the file doesn't allow.
     pub first: bool,
+    /// After how many seconds the search ends: 0 to 1000000000, and never where it is 0.
+    pub seconds: u32,
     /// How many random runs to make in place of a search: 0 to 1000000000, and none where it is 0.
     pub sample: u32,
     /// What the random runs begin from.
     pub seed: u32,
+    /// The message that the random runs are looked through for: its name, its hart and an address in its line.
+    pub until: Option<&'a str>,
     /// Find what the memory model allows too, where the machine can't show it.
     pub architecture: bool,
     /// How many operations of a hart may wait at a time in a search of what the model allows: 1 to 64.
@@ -136,6 +186,13 @@ impl Explore<'_> {
         ensures { result ≡ shortens self.now }
     {
         self.scripts.is_some() && !self.whole
+    }
+
+    /// The message that random runs are looked through for, if one is.
+    pub fn message(&self) -> Option<MessagePattern>
+        ensures { result ≡ message_in self.now.until }
+    {
+        pattern_in(self.until?.as_bytes())
     }
 
     /// Whether random runs are asked for, and a search of the memory model.
@@ -169,6 +226,39 @@ impl Explore<'_> {
         }
     }
 
+    /// Whether random runs are asked for, and a search that ends by the clock.
+    fn is_untimed(&self) -> bool
+        ensures { IsTrue result ↔ IsUntimed self.now }
+    {
+        0 < self.seconds && 0 < self.sample
+    }
+
+    /// Whether something is asked of a program's ends.
+    fn asks_of_ends(&self) -> bool
+        ensures { result ≡ asks_of_ends self.now }
+    {
+        self.architecture
+            || self.first
+            || self.scripts.is_some()
+            || self.allow.is_some()
+            || self.fail_on.is_some()
+            || 0 < self.seconds
+    }
+
+    /// Whether that is asked, and a message looked for.
+    fn is_mixed(&self) -> bool
+        ensures { IsTrue result ↔ IsMixed self.now }
+    {
+        self.until.is_some() && self.asks_of_ends()
+    }
+
+    /// Whether what is looked for is no message.
+    fn is_unread(&self) -> bool
+        ensures { IsTrue result ↔ IsUnread self.now }
+    {
+        self.until.is_some() && self.message().is_none()
+    }
+
     /// What doesn't go together, and what to do, if there is anything.
     fn conflict(&self) -> Option<&'static str>
         ensures { IsSome result ↔ HasConflict self.now }
@@ -181,6 +271,12 @@ impl Explore<'_> {
             Some(UNKNOWN)
         } else if self.is_blind() {
             Some(BLIND)
+        } else if self.is_untimed() {
+            Some(UNTIMED)
+        } else if self.is_mixed() {
+            Some(MIXED)
+        } else if self.is_unread() {
+            Some(UNREAD)
         } else {
             None
         }
@@ -216,6 +312,18 @@ pub struct Show<'a> {
     pub words: Vec<&'a str>,
 }
 
+impl Show<'_> {
+    /// What doesn't go together, and what to do, if there is anything.
+    fn conflict(&self) -> Option<&'static str>
+        ensures { IsSome result ↔ (ShowsNoEnd self.now.explore ⊎ HasConflict self.now.explore) }
+    {
+        if self.explore.until.is_some() {
+            return Some(MIXED);
+        }
+        self.explore.conflict()
+    }
+}
+
 /// Whose outcomes of a program are asked for.
 #[derive(Clone, Copy)]
 pub enum Subject {
@@ -235,10 +343,14 @@ pub struct Fences<'a> {
     pub states: u32,
     /// How many operations of a hart may wait at a time: 1 to 64.
     pub window: u32,
+    /// How many searches go side by side, 0 to 64: as many as there are processors where it is 0.
+    pub threads: u32,
     /// The file with the outcomes that are allowed, in place of those of the program as it is.
     pub allow: Option<&'a str>,
     /// Whose outcomes are compared.
     pub subject: Subject,
+    /// The folder into which go runs that show what is lost without an ordering that is needed.
+    pub scripts: Option<&'a str>,
     /// The file into which the program goes with the orderings that are enough.
     pub write: Option<&'a str>,
     pub image: &'a str,
@@ -389,10 +501,10 @@ impl Settings<'_> {
     {
         match self {
             Settings::Explore(explore) => explore.conflict(),
-            Settings::Show(show) => show.explore.conflict(),
+            Settings::Show(show) => show.conflict(),
+            Settings::Run(run) => run.conflict(),
             Settings::Check(check) => check.conflict(),
             Settings::Replay(_)
-            | Settings::Run(_)
             | Settings::Explain(_)
             | Settings::Chart(_)
             | Settings::Page(_)

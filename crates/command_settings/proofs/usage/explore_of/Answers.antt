@@ -25,10 +25,12 @@ returns-clause-meant c = λ whole.
       allow = sym (c.get_str-2.ensures ∙ first_value-rows f (codes "allow"));
       fail_on = sym (c.get_str-3.ensures ∙ first_value-rows f (codes "fail-on"));
       first = flag_read _ rest.1.1.1.1.1.0.0 _ rest.1.1.1.1.1.0.1 (λ h. c.get_flag-3.ensures.value (early ∙ h)) (λ h. c.get_flag-3.ensures.other (early ∙ h));
-      sample = c.in_ok-number_of-2.ensures.meant 0 most_limit rest.1.1.1.1.1.1.0;
-      seed = c.in_ok-number_of-3.ensures.meant 0 most_size rest.1.1.1.1.1.1.1.0;
-      architecture = flag_read _ rest.1.1.1.1.1.1.1.1.0.0 _ rest.1.1.1.1.1.1.1.1.0.1 (λ h. c.get_flag-4.ensures.value (flag ∙ h)) (λ h. c.get_flag-4.ensures.other (flag ∙ h));
-      window = c.in_ok-number_of-4.ensures.meant least_window most_window rest.1.1.1.1.1.1.1.1.1.0;
+      seconds = c.in_ok-number_of-2.ensures.meant 0 most_limit rest.1.1.1.1.1.1.0;
+      sample = c.in_ok-number_of-3.ensures.meant 0 most_limit rest.1.1.1.1.1.1.1.0;
+      seed = c.in_ok-number_of-4.ensures.meant 0 most_size rest.1.1.1.1.1.1.1.1.0;
+      until = sym (c.get_str-4.ensures ∙ first_value-rows f (codes "until"));
+      architecture = flag_read _ rest.1.1.1.1.1.1.1.1.1.1.0.0 _ rest.1.1.1.1.1.1.1.1.1.1.0.1 (λ h. c.get_flag-4.ensures.value (flag ∙ h)) (λ h. c.get_flag-4.ensures.other (flag ∙ h));
+      window = c.in_ok-number_of-5.ensures.meant least_window most_window rest.1.1.1.1.1.1.1.1.1.1.1.0;
       image = sym (c.in_ok-get_str.ensures ∙ first_value-rows f (codes "IMAGE"));
     }
 
@@ -39,7 +41,7 @@ pub returns-in_err-number_of-clause-missing : goal.returns-in_err-number_of-clau
 returns-in_err-number_of-clause-missing c = λ none whole. c.in_err-number_of.ensures.missing refl least_limit most_limit small_limit (has_rest (rows_of (found_of c.args.matches.now)) machine_arguments (drop 7 explore_arguments) whole.1).0
 
 pub returns-in_err-get_str-clause-missing : goal.returns-in_err-get_str-clause-missing
-returns-in_err-get_str-clause-missing c = λ none whole. none_some _ _ (c.in_err-get_str.ensures ∙ first_value-rows (found_of c.args.matches.now) (codes "IMAGE")) (has_rest (rows_of (found_of c.args.matches.now)) machine_arguments (drop 7 explore_arguments) whole.1).1.1.1.1.1.1.1.1.1.1.1.0.1
+returns-in_err-get_str-clause-missing c = λ none whole. none_some _ _ (c.in_err-get_str.ensures ∙ first_value-rows (found_of c.args.matches.now) (codes "IMAGE")) (has_rest (rows_of (found_of c.args.matches.now)) machine_arguments (drop 7 explore_arguments) whole.1).1.1.1.1.1.1.1.1.1.1.1.1.1.0.1
 
 pub returns-in_err-number_of-2-clause-missing : goal.returns-in_err-number_of-2-clause-missing
 returns-in_err-number_of-2-clause-missing c = λ none whole.
@@ -47,8 +49,12 @@ returns-in_err-number_of-2-clause-missing c = λ none whole.
 
 pub returns-in_err-number_of-3-clause-missing : goal.returns-in_err-number_of-3-clause-missing
 returns-in_err-number_of-3-clause-missing c = λ none whole.
-    c.in_err-number_of-3.ensures.missing refl 0 most_size small_size (has_rest (rows_of (found_of c.args.matches.now)) machine_arguments (drop 7 explore_arguments) whole.1).1.1.1.1.1.1.1.0
+    c.in_err-number_of-3.ensures.missing refl 0 most_limit small_limit (has_rest (rows_of (found_of c.args.matches.now)) machine_arguments (drop 7 explore_arguments) whole.1).1.1.1.1.1.1.1.0
 
 pub returns-in_err-number_of-4-clause-missing : goal.returns-in_err-number_of-4-clause-missing
 returns-in_err-number_of-4-clause-missing c = λ none whole.
-    c.in_err-number_of-4.ensures.missing refl least_window most_window small_window (has_rest (rows_of (found_of c.args.matches.now)) machine_arguments (drop 7 explore_arguments) whole.1).1.1.1.1.1.1.1.1.1.0
+    c.in_err-number_of-4.ensures.missing refl 0 most_size small_size (has_rest (rows_of (found_of c.args.matches.now)) machine_arguments (drop 7 explore_arguments) whole.1).1.1.1.1.1.1.1.1.0
+
+pub returns-in_err-number_of-5-clause-missing : goal.returns-in_err-number_of-5-clause-missing
+returns-in_err-number_of-5-clause-missing c = λ none whole.
+    c.in_err-number_of-5.ensures.missing refl least_window most_window small_window (has_rest (rows_of (found_of c.args.matches.now)) machine_arguments (drop 7 explore_arguments) whole.1).1.1.1.1.1.1.1.1.1.1.1.0

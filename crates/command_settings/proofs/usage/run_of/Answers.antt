@@ -7,7 +7,7 @@ use Rattle.command_settings.proofs.Missing.{flag_read, none_some}
 use Rattle.command_settings.proofs.Ranges.{small_limit}
 use Rattle.command_settings.proofs.usage.run_of.Goals as goal
 
--- behind the flag and the six arguments of a machine stand the limit, the journal and the image
+-- behind the flag and the six arguments of a machine stand the limit, the journal, what it may not come to and the image
 pub returns-clause-meant : goal.returns-clause-meant
 returns-clause-meant c = λ whole.
     let f = found_of c.args.matches.now in
@@ -20,6 +20,7 @@ returns-clause-meant c = λ whole.
       least = limit.1;
       most = limit.2;
       journal = sym (c.in_ok-get_str.ensures ∙ first_value-rows f (codes "journal"));
+      fail_on = sym (c.get_str-2.ensures ∙ first_value-rows f (codes "fail-on"));
       image = sym (c.in_ok-get_str-2.ensures ∙ first_value-rows f (codes "IMAGE"));
     }
 
@@ -33,4 +34,4 @@ pub returns-in_err-get_str-clause-missing : goal.returns-in_err-get_str-clause-m
 returns-in_err-get_str-clause-missing c = λ none whole. none_some _ _ (c.in_err-get_str.ensures ∙ first_value-rows (found_of c.args.matches.now) (codes "journal")) whole.1.1.1.1.1.1.1.1.0.1
 
 pub returns-in_err-get_str-2-clause-missing : goal.returns-in_err-get_str-2-clause-missing
-returns-in_err-get_str-2-clause-missing c = λ none whole. none_some _ _ (c.in_err-get_str-2.ensures ∙ first_value-rows (found_of c.args.matches.now) (codes "IMAGE")) whole.1.1.1.1.1.1.1.1.1.0.1
+returns-in_err-get_str-2-clause-missing c = λ none whole. none_some _ _ (c.in_err-get_str-2.ensures ∙ first_value-rows (found_of c.args.matches.now) (codes "IMAGE")) whole.1.1.1.1.1.1.1.1.1.1.0.1
