@@ -91,7 +91,7 @@ fn tells_at_times(rt: &impl Abort, desk: &Desk, progress: &impl Progress) {
 #[test]
 fn a_line_comes_twice_a_second(rt: HostRuntime) -> Result<(), Fail> {
     let desk = Desk::new(rt.alloc(), 70);
-    let progress = Some(ProgressLine::start(&desk)?);
+    let progress = Some(ProgressLine::start(&desk, true)?);
     tells_at_times(&rt, &desk, &progress);
     Ok(())
 }
@@ -106,8 +106,10 @@ const SAMPLE: Stage<'static> = Stage::Sample {
     ends: 4,
 };
 
+const LOOK: Stage<'static> = Stage::Look { runs: 600 };
+
 /// Milliseconds since the start, what is told then, and the line.
-static LINES: [(u64, Stage<'static>, &str); 5] = [
+static LINES: [(u64, Stage<'static>, &str); 6] = [
     (
         12_000,
         RUN,
@@ -133,6 +135,7 @@ static LINES: [(u64, Stage<'static>, &str); 5] = [
         SAMPLE,
         "25 s, 50k runs (2000 a second), 4 ends\x1b[K\r",
     ),
+    (30_000, LOOK, "30 s, 600 runs (20 a second)\x1b[K\r"),
 ];
 
 fn tells_lines(rt: &impl Abort, desk: &Desk, progress: &impl Progress) {
@@ -143,7 +146,7 @@ fn tells_lines(rt: &impl Abort, desk: &Desk, progress: &impl Progress) {
         progress.tell(*stage);
         desk.holds(rt, line);
     }
-    desk.turn_to(rt, 25_000);
+    desk.turn_to(rt, 30_000);
     progress.end();
     desk.holds(rt, "\x1b[K");
 }
@@ -151,9 +154,31 @@ fn tells_lines(rt: &impl Abort, desk: &Desk, progress: &impl Progress) {
 #[test]
 fn lines_are_short(rt: HostRuntime) -> Result<(), Fail> {
     let desk = Desk::new(rt.alloc(), 0);
-    let progress = ProgressLine::start(&desk)?;
+    let progress = ProgressLine::start(&desk, true)?;
     tells_lines(&rt, &desk, &progress);
     Silent.tell(RUN);
     Silent.end();
+    Ok(())
+}
+
+/// Milliseconds since the start, how many seconds are asked for, and whether they are over.
+static SECONDS: [(u64, u32, bool); 4] = [
+    (0, 1, false),
+    (999, 1, false),
+    (1_000, 1, true),
+    (3_500, 4, false),
+];
+
+#[test]
+fn a_line_that_is_not_shown_has_the_time(rt: HostRuntime) -> Result<(), Fail> {
+    let desk = Desk::new(rt.alloc(), 0);
+    let progress = Some(ProgressLine::start(&desk, false)?);
+    for (millis, seconds, is_over) in &SECONDS {
+        desk.turn_to(&rt, *millis);
+        same_of(&rt, progress.has_taken(*seconds), *is_over, millis);
+        progress.tell(RUN);
+        desk.holds(&rt, "");
+    }
+    assert!(rt; !Silent.has_taken(0));
     Ok(())
 }

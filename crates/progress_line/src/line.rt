@@ -17,27 +17,33 @@ const FIRST_TOLD: u64 = 2;
 const ERASE: &str = "\x1b[K";
 
 /// Tells how far a command is on standard error, which is a terminal: behind the first second, once in each
-/// half second, each line over the last one. A line that can't be written is left out.
+/// half second, each line over the last one. A line that can't be written is left out. Where standard error is none, it
+/// has the command's time alone.
 #[derive(Drop)]
 pub struct ProgressLine<'r, R> {
     rt: &'r R,
     started: Instant,
+    is_shown: bool,
     // The half second from which the next line may be told.
     next: AtomicU64,
 }
 
 impl<'r, R: Clock> ProgressLine<'r, R> {
-    /// For a command that starts now. It errs where the clock does.
-    pub fn start(rt: &'r R) -> io::Result<ProgressLine<'r, R>> {
+    /// For a command that starts now, with or without a line that is shown. It errs where the clock does.
+    pub fn start(rt: &'r R, is_shown: bool) -> io::Result<ProgressLine<'r, R>> {
         Ok(ProgressLine {
             rt,
             started: Instant::now(rt)?,
+            is_shown,
             next: AtomicU64::new(FIRST_TOLD),
         })
     }
 
     // The time since the start, where a line is due. Of several threads one is answered so.
     fn due(&self) -> Option<Duration> {
+        if !self.is_shown {
+            return None;
+        }
         let elapsed = self.started.elapsed(self.rt).ok()?;
         let half = half_seconds(elapsed);
         let next = self.next.load(Ordering::SeqCst);
@@ -62,6 +68,13 @@ impl<R: Clock + Eprint> Progress for ProgressLine<'_, R> {
     fn end(&self) {
         if self.next.load(Ordering::SeqCst) != FIRST_TOLD {
             let _ = self.rt.eprint(ERASE);
+        }
+    }
+
+    fn has_taken(&self, seconds: u32) -> bool {
+        match self.started.elapsed(self.rt) {
+            Ok(elapsed) => elapsed.as_secs() >= u64::from(seconds),
+            Err(_) => false,
         }
     }
 }
@@ -116,6 +129,11 @@ impl Display for Line<'_> {
                     Rounded(rate)
                 )?;
             }
+            Stage::Look { runs } => {
+                let rate = per_second(runs, self.elapsed);
+                write!(f, "{} runs ({} a second)", Rounded(runs), Rounded(rate))?;
+            }
+            Stage::Done { done, known, what } => write!(f, "{done} of {known} {what}")?,
         }
         write!(f, "{ERASE}\r")
     }
