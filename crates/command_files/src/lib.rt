@@ -24,7 +24,7 @@ pub use files::Files;
 pub use input::{Source, WithInput};
 pub use machine_traces;
 pub use machines::{config_of, named_config, script_of};
-pub use message::{put_fault, tell, tell_lost};
+pub use message::{put_fault, put_named, tell, tell_lost};
 pub use notes;
 pub use reading::{
     check_writable, contents, image_in, image_of, script_from, script_in, text_in, unmade,

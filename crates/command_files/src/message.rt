@@ -1,6 +1,7 @@
 //! The program's message for a fault.
 
-ghost use Rattle.std.specs.Prelude.{◌≡◌, ◌⊎◌, ◌++◌, IsTrue, codes};
+ghost use Rattle.std.specs.Prelude.{◌≡◌, ◌⊎◌, ◌↔◌, ◌++◌, IsTrue, codes};
+ghost use Rattle.std.specs.IoError.{error_kind};
 ghost use Rattle.command_files.specs.Messages.{HasPlainName, IsLost, IsToldOf, apply_error_name, check_error_name, fault_line, fault_text, is_plain, is_plain_byte, line_text, load_error_name, numbered_cause, text_code_name, unshown_text};
 ghost use Rattle.command_files.specs.Status.{status_of};
 ghost use Rattle.text_fields.specs.Writing.{Writes, pieces};
@@ -12,7 +13,7 @@ use event_stream::coherent_machine::ApplyError;
 use event_stream::outcome_name;
 use machine_types::Outcome;
 use rvwmo_order::CheckError;
-use std::io::{self, Write};
+use std::io::{self, ErrorKind, Write};
 use text_fields::Piece::{Number, Text, Word};
 use text_fields::{Piece, put, put_pieces};
 use trace_text::{TextCode, TextError};
@@ -31,6 +32,7 @@ pub fn tell<E: Write>(fault: &Fault<'_>, err: &mut E) -> u8
 pub fn tell_lost<E: Write>(error: io::Error, err: &mut E) -> u8
     ensures lost { IsLost (E.contents err.old) (E.contents err.new) result }
     ensures status { (result ≡ 1) ⊎ (result ≡ 4) }
+    ensures memory { (result ≡ 4) ↔ (error_kind error ≡ ErrorKind.OutOfMemory) }
 {
     tell(&Fault::writing(error), err)
 }
@@ -204,8 +206,13 @@ fn put_at_line<'a, E: Write>(
     put_named(b"rvtl: ", file, &told, err)
 }
 
-/// What stands before a name, the name, and what stands behind it.
-fn put_named<E: Write>(lead: &[u8], name: &str, behind: &[Piece<'_>], err: &mut E) -> io::Result<()>
+/// Writes what stands before a name, the name as messages have it (`Escaped`), and what stands behind it.
+pub fn put_named<E: Write>(
+    lead: &[u8],
+    name: &str,
+    behind: &[Piece<'_>],
+    err: &mut E,
+) -> io::Result<()>
     ensures { IsTrue (is_plain name.now) → Writes (E.contents err.old) (E.contents err.new) (lead.now ++ (name.now ++ pieces behind.now)) result }
 {
     if is_plain(name) {
