@@ -7,7 +7,6 @@ use Rattle.std.proofs.lemmas.List.Elements.{filter-append, filter_map-append}
 use Rattle.machine_model.proofs.log.Counts.{bit}
 use Rattle.machine_model.specs.LawfulLog.{concerns, grow_in, grows_taken, is_acquire, is_grant, is_grant_ack, is_probe, is_probe_ack, is_release, is_release_ack, is_sent, lost_after, lost_since_asking, sent_count, taken_count}
 use Rattle.lawful_log.specs.Facts.{CanCount, HaveRoom, counted, counted_as, goes_up, tallies_of, tally_of}
-use Rattle.lawful_log.specs.Followed.{grows_given}
 use Rattle.lawful_log.specs.declared.tallies.Tallies.{Tallies}
 use Rattle.lawful_log.specs.declared.tallies.Tally.{Tally}
 use Rattle.tl_types.specs.declared.message.Body.{Body}
@@ -25,7 +24,7 @@ count p log e = ap length (filter-append p log (e ∷ [])) ∙ length-append (fi
     one true = refl
     one false = refl
 
-abbrev raised : Bool → Direction → Tally → Tally
+abbrev pub raised : Bool → Direction → Tally → Tally
 raised true d t = goes_up d t
 raised false d t = t
 
@@ -40,7 +39,7 @@ and-assoc true b c = refl
 and-assoc false b c = refl
 
 module _ (who : Logged → Bool) (log : List Logged) (e : Logged) where
-  tally_more : (kind : Body → Bool) → tally_of kind who (log ++ e ∷ []) ≡ raised (who e && kind e.message.body) e.direction (tally_of kind who log)
+  pub tally_more : (kind : Body → Bool) → tally_of kind who (log ++ e ∷ []) ≡ raised (who e && kind e.message.body) e.direction (tally_of kind who log)
   tally_more kind = tally_as e.direction (who e && kind e.message.body) (sent_count kind who log) (taken_count kind who log) (sent_count kind who (log ++ e ∷ [])) (taken_count kind who (log ++ e ∷ []))
       (count (λ (e : Logged). is_sent e.direction && who e && kind e.message.body) log e ∙ ap (λ b. sent_count kind who log + bit b) (and-assoc (is_sent e.direction) (who e) (kind e.message.body)))
       (count (λ (e : Logged). not (is_sent e.direction) && who e && kind e.message.body) log e ∙ ap (λ b. taken_count kind who log + bit b) (and-assoc (not (is_sent e.direction)) (who e) (kind e.message.body)))
@@ -107,25 +106,7 @@ have_room who log h = record {
   grant_acks = has_room is_grant_ack who log h;
 }
 
--- ---- what was asked for, and what was lost
-
-given : (d : Direction) (w : Bool) (body : Body) → cons_option (if not (is_sent d) && w then grow_in body else None) [] ≡ (if w then grows_given d body else [])
-given Sent true body = refl
-given Sent false body = refl
-given Taken false body = refl
-given Taken true (AcquireBlock g) = refl
-given Taken true (ProbeBlock c) = refl
-given Taken true (ProbeAck c) = refl
-given Taken true (ProbeAckData c b) = refl
-given Taken true (Release c) = refl
-given Taken true (ReleaseData c b) = refl
-given Taken true (Grant c) = refl
-given Taken true (GrantData c b) = refl
-given Taken true ReleaseAck = refl
-given Taken true GrantAck = refl
-
-pub grows_more : (h line : ℕ) (log : List Logged) (e : Logged) → grows_taken h line (log ++ e ∷ []) ≡ grows_taken h line log ++ (if concerns h line e then grows_given e.direction e.message.body else [])
-grows_more h line log e = filter_map-append _ log (e ∷ []) ∙ ap (λ l. grows_taken h line log ++ l) (given e.direction (concerns h line e) e.message.body)
+-- ---- what was lost
 
 pub lost_more : (h line : ℕ) (lost : Bool) (log : List Logged) (e : Logged) → lost_since_asking h line lost (log ++ e ∷ []) ≡ lost_after h line (lost_since_asking h line lost log) e
 lost_more h line lost [] e = refl

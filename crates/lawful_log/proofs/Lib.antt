@@ -6,6 +6,7 @@ pub mod Sums
 pub mod Ranks
 pub mod Judged
 pub mod Counted
+pub mod Asked
 pub mod Waiting
 pub mod Noted
 pub mod Harts

@@ -1,12 +1,12 @@
 -- The maps say of a log what the rules ask for, and go on to when it grows by an entry.
 use Rattle.std.proofs.Common.{ℕ, Bool, true, false, List, [], ◌∷◌, ◌++◌, ◌≡◌, Option, Some, None, refl, ap, sym, ◌∙◌, subst, arith}
 use Rattle.std.specs.Prelude.{if◌then◌else◌, slice_get}
-use Rattle.std.proofs.lemmas.List.{append-nil}
 use Rattle.machine_model.specs.LawfulLog.{concerns, is_of_line}
-use Rattle.lawful_log.proofs.Counted.{grows_more, lost_more, tallies_more}
+use Rattle.lawful_log.proofs.Asked.{asked_more, asks_next}
+use Rattle.lawful_log.proofs.Counted.{lost_more, tallies_more}
 use Rattle.lawful_log.proofs.Waiting.{waiting_more}
 use Rattle.lawful_log.specs.Facts.{FindsBreach, FindsBroken, GoesBy, Known, MayComeBy, counted, known_of}
-use Rattle.lawful_log.specs.Followed.{Follows, HartKnown, all_in, grows_given, hart_known_of, known_from, known_in, noted, waiting_after, waiting_on, waits_first}
+use Rattle.lawful_log.specs.Followed.{Follows, HartKnown, all_in, hart_known_of, known_from, known_in, noted, waiting_after, waiting_on, waits_first}
 use Rattle.lawful_log.specs.declared.followed.Followed.{Followed}
 use Rattle.lawful_log.specs.declared.profile.Profile.{Profile}
 use Rattle.lawful_log.specs.declared.rule.LogRule.{LogRule}
@@ -21,7 +21,7 @@ use Rattle.trace_recorder.specs.declared.logged.Logged.{Logged}
 
 -- what the next message is judged by
 pub judged_by : (f : Followed) (log : List Logged) (h line : ℕ) → Follows f log → known_from (known_in f.lines h line) (all_in f.lines line) ≡ known_of h line log
-judged_by f log h line follows = λ k. known_from (follows.harts h line k) (follows.lines line k)
+judged_by f log h line follows = (λ k. known_from (follows.harts h line k) (follows.lines line k)) ∙ asks_next h line log
 
 pub in_front : (f : Followed) (log : List Logged) (h : ℕ) (m : Msg) → Follows f log → slice_get (waiting_on f.queues (channel_of m) h) 0 ≡ waits_first h m log
 in_front f log h m follows = ap (λ (q : List Msg). slice_get q 0) (follows.queues (channel_of m) h)
@@ -76,7 +76,7 @@ breaks_order profile f log e follows taken other = (
 pub hart_more : (h line : ℕ) (log : List Logged) (e : Logged) → hart_known_of h line (log ++ e ∷ []) ≡ (if concerns h line e then noted e (hart_known_of h line log) else hart_known_of h line log)
 hart_more h line log e = (λ k. record {
   tallies = tallies_more (concerns h line) log e k;
-  asked = grows_more h line log e k;
+  asked = asked_more h line log e k;
   lost = lost_more h line false log e k;
 }) ∙ go (concerns h line e)
   where
@@ -85,11 +85,11 @@ hart_more h line log e = (λ k. record {
 
     go : (b : Bool) → record {
       tallies = (if b then counted e before.tallies else before.tallies);
-      asked = before.asked ++ (if b then grows_given e.direction e.message.body else []);
+      asked = (if b then (noted e before).asked else before.asked);
       lost = (if b then (noted e before).lost else before.lost);
     } ≡ (if b then noted e before else before)
     go true = refl
-    go false = λ k. record { tallies = before.tallies; asked = append-nil before.asked k; lost = before.lost }
+    go false = refl
 
 -- the maps and the queues behind an entry
 pub record IsNoted (f g : Followed) (e : Logged) : Type 0 where

@@ -1,11 +1,11 @@
 -- What the one pass keeps of a log.
-use Rattle.std.specs.Prelude.{ℕ, ◌≡◌, ◌+◌, ◌<◌, ◌^◌, Bool, false, ◌&&◌, ◌||◌, not, ◌==◌, if◌then◌else◌, Option, List, [], ◌∷◌, ◌++◌, length, drop, nat_eq, slice_get}
+use Rattle.std.specs.Prelude.{ℕ, ◌≡◌, ◌+◌, ◌<◌, ◌^◌, Bool, false, ◌&&◌, ◌||◌, not, ◌==◌, if◌then◌else◌, Option, List, [], ◌∷◌, ◌++◌, length, drop, nat_eq, nat_lt, slice_get}
 use Rattle.std.specs.BTreeMap as tree
 use Rattle.std.specs.HashMap.{HashMap, get}
 use Rattle.std.specs.Option.{option_map_or}
 use Rattle.std.specs.Ordering.{nat_cmp}
 use Rattle.std.specs.VecDeque.{deque_items}
-use Rattle.machine_model.specs.LawfulLog.{concerns, grows_taken, is_acquire, is_loss, is_of_line, is_on, is_sent, lost_since_asking}
+use Rattle.machine_model.specs.LawfulLog.{concerns, grows_taken, is_acquire, is_grant, is_loss, is_of_line, is_on, is_sent, lost_since_asking, sent_count}
 use Rattle.lawful_log.specs.Facts.{Known, counted, no_tallies, tallies_of}
 use Rattle.lawful_log.specs.declared.followed.Followed.{Followed}
 use Rattle.lawful_log.specs.declared.lines.HartLog.{HartLog}
@@ -14,7 +14,7 @@ use Rattle.lawful_log.specs.declared.queues.Queues.{Queues}
 use Rattle.lawful_log.specs.declared.tallies.Tallies.{Tallies}
 use Rattle.tl_types.specs.Message.{channel_of}
 use Rattle.tl_types.specs.declared.message.Body.{Body}
-use Rattle.tl_types.specs.declared.message.Body.TheVariants.{AcquireBlock}
+use Rattle.tl_types.specs.declared.message.Body.TheVariants.{AcquireBlock, Grant, GrantData}
 use Rattle.tl_types.specs.declared.message.Channel.{Channel}
 use Rattle.tl_types.specs.declared.message.Channel.TheVariants.{A, B, C, D, E}
 use Rattle.tl_types.specs.declared.message.Msg.{Msg}
@@ -27,7 +27,7 @@ use Rattle.trace_recorder.specs.declared.logged.Logged.{Logged}
 
 pub record HartKnown : Type 0 where
   pub tallies : Tallies
-  -- what the Acquires that were taken asked for
+  -- what the Acquires that were taken asked for, but for those in whose place a Grant was sent
   pub asked : List Grow
   pub lost : Bool
 
@@ -35,7 +35,7 @@ abbrev pub nothing_known : HartKnown
 nothing_known = record { tallies = no_tallies; asked = []; lost = false }
 
 abbrev pub hart_known : HartLog → HartKnown
-hart_known hart = record { tallies = hart.tallies; asked = hart.asked.items; lost = hart.lost }
+hart_known hart = record { tallies = hart.tallies; asked = deque_items hart.asked; lost = hart.lost }
 
 abbrev pub known_at : List HartLog → ℕ → HartKnown
 known_at harts h = option_map_or hart_known (slice_get harts h) nothing_known
@@ -49,7 +49,7 @@ module _ {S : Type 0} where
 
 -- what a message of the hart is judged by
 abbrev pub known_from : HartKnown → (line : Tallies) → Known
-known_from k line = record { hart = k.tallies; line = line; asked = slice_get k.asked k.tallies.grants.sent; lost = k.lost }
+known_from k line = record { hart = k.tallies; line = line; asked = slice_get k.asked 0; lost = k.lost }
 
 abbrev pub waiting_on : Queues → Channel → ℕ → List Msg
 waiting_on q A h = option_map_or deque_items (tree.get nat_cmp q.a h) []
@@ -60,10 +60,12 @@ waiting_on q E h = option_map_or deque_items (tree.get nat_cmp q.e h) []
 
 -- ---- one more entry
 
--- what an Acquire that is taken asks for
-abbrev pub grows_given : Direction → Body → List Grow
-grows_given Taken (AcquireBlock grow) = grow ∷ []
-grows_given _ _ = []
+-- an Acquire that is taken asks, unless a Grant was sent in its place before; with each Grant that is sent the first has its answer
+abbrev pub asked_after : Direction → Body → Tallies → List Grow → List Grow
+asked_after Taken (AcquireBlock grow) t asked = if nat_lt t.acquires.taken t.grants.sent then asked else asked ++ grow ∷ []
+asked_after Sent (Grant cap) t asked = drop 1 asked
+asked_after Sent (GrantData cap bytes) t asked = drop 1 asked
+asked_after _ _ t asked = asked
 
 -- an Acquire that is sent asks anew, and a ProbeAck with BtoN that is taken is a loss
 abbrev pub lost_by : Logged → Bool → Bool
@@ -72,7 +74,7 @@ lost_by e lost = if is_sent e.direction then (not (is_acquire e.message.body) &&
 abbrev pub noted : Logged → HartKnown → HartKnown
 noted e k = record {
   tallies = counted e k.tallies;
-  asked = k.asked ++ grows_given e.direction e.message.body;
+  asked = asked_after e.direction e.message.body k.tallies k.asked;
   lost = lost_by e k.lost;
 }
 
@@ -100,7 +102,7 @@ waits_first h m log = slice_get (waiting_of (channel_of m) h log) 0
 abbrev pub hart_known_of : ℕ → ℕ → List Logged → HartKnown
 hart_known_of h line log = record {
   tallies = tallies_of (concerns h line) log;
-  asked = grows_taken h line log;
+  asked = drop (sent_count is_grant (concerns h line) log) (grows_taken h line log);
   lost = lost_since_asking h line false log;
 }
 

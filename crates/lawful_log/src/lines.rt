@@ -1,7 +1,8 @@
 //! What a log says so far of a line.
-ghost use Rattle.std.specs.Prelude.{ℕ, ◌≡◌, ◌<◌, ◌==◌, OnOk, if◌then◌else◌, length, option_to_list};
+ghost use Rattle.std.specs.Prelude.{ℕ, ◌≡◌, ◌<◌, ◌==◌, OnOk, if◌then◌else◌, length};
+ghost use Rattle.std.specs.VecDeque.{deque_items};
 ghost use Rattle.lawful_log.specs.Facts.{FindsBroken, HaveRoom, counted, no_tallies};
-ghost use Rattle.lawful_log.specs.Followed.{grows_given, hart_known, known_at, known_from, lost_by, noted, nothing_known};
+ghost use Rattle.lawful_log.specs.Followed.{asked_after, hart_known, known_at, known_from, lost_by, noted, nothing_known};
 ghost use Rattle.machine_model.specs.LawfulLog.{is_loss};
 ghost use Rattle.machine_model.specs.LawfulLog as lawful;
 
@@ -10,6 +11,7 @@ use crate::profile::Profile;
 use crate::rule::LogRule;
 use crate::tallies::Tallies;
 use std::alloc::{AllocError, Global};
+use std::collections::VecDeque;
 use tl_types::{Body, Change, Grow};
 use trace_recorder::{Direction, Logged};
 
@@ -27,8 +29,8 @@ pub(crate) struct LineLog {
 pub(crate) struct HartLog {
     /// The messages in the hart's queues.
     pub(crate) tallies: Tallies,
-    /// What the Acquires that were taken asked for, the first one first.
-    pub(crate) asked: Vec<Grow>,
+    /// What the Acquires asked for that were taken and have no Grant yet, the first one first.
+    pub(crate) asked: VecDeque<Grow>,
     /// Whether the hart lost its Branch copy since it last asked for the line.
     pub(crate) lost: bool,
 }
@@ -110,7 +112,7 @@ impl HartLog {
     {
         HartLog {
             tallies: Tallies::none(),
-            asked: Vec::new(alloc),
+            asked: VecDeque::new(alloc),
             lost: false,
         }
     }
@@ -121,7 +123,7 @@ impl HartLog {
         let facts = Facts {
             hart: &self.tallies,
             line,
-            asked: self.asked.get(self.tallies.grants.sent).copied(),
+            asked: self.asked.front().copied(),
             lost: self.lost,
         };
         facts.broken(profile, body)
@@ -131,23 +133,33 @@ impl HartLog {
         requires { HaveRoom self.old.tallies }
         ensures { OnOk result (hart_known self.new ≡ noted entry.now (hart_known self.old)) }
     {
+        note_asked(&mut self.asked, &self.tallies, entry)?;
         self.tallies.count(entry);
         self.lost = is_lost_after(self.lost, entry);
-        if let Some(grow) = asked_by(entry) {
-            self.asked.push(grow)?;
-        }
         Ok(())
     }
 }
 
-// What an Acquire that is taken asks for.
-fn asked_by(entry: &Logged) -> Option<Grow>
-    ensures { option_to_list result ≡ grows_given entry.now.direction entry.now.message.body }
+// An Acquire that is taken asks, unless a Grant was sent in its place before. A Grant that is sent answers the first.
+fn note_asked(
+    asked: &mut VecDeque<Grow>,
+    before: &Tallies,
+    entry: &Logged,
+) -> Result<(), AllocError>
+    ensures { OnOk result (deque_items asked.new ≡ asked_after entry.now.direction entry.now.message.body before.now (deque_items asked.old)) }
 {
     match (entry.direction, entry.message.body) {
-        (Direction::Taken, Body::AcquireBlock(grow)) => Some(grow),
-        _ => None,
+        (Direction::Taken, Body::AcquireBlock(grow)) => {
+            if before.acquires.taken >= before.grants.sent {
+                asked.push_back(grow)?;
+            }
+        }
+        (Direction::Sent, Body::Grant(_) | Body::GrantData { .. }) => {
+            asked.pop_front();
+        }
+        _ => {}
     }
+    Ok(())
 }
 
 // An Acquire that is sent asks anew, and a ProbeAck with BtoN that is taken is a loss.

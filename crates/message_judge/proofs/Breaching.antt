@@ -15,7 +15,7 @@ use Rattle.message_judge.specs.Breaches.{AreBreachesOf, AreTold, BreaksAs, Break
 use Rattle.message_judge.specs.Laws.{AreLawfulMessages, IsFirstFault, IsMessageVerdict}
 use Rattle.message_judge.specs.declared.breaches.Broken.{Broken}
 use Rattle.message_judge.specs.declared.verdict.MessageBreach.{MessageBreach}
-use Rattle.message_judge.specs.declared.verdict.MessageBreach.TheVariants.{Incoherent, Unanswered, Unlawful}
+use Rattle.message_judge.specs.declared.verdict.MessageBreach.TheVariants.{Incoherent, Unanswered, Unlawful, Unwritten}
 use Rattle.trace_recorder.specs.declared.logged.Logged.{Logged}
 
 -- ---- what is listed of all
@@ -101,6 +101,7 @@ module _ (profile : Profile) (image : Option Initial) (log : List Logged) where
     λ all. cc ((coherence.breach_decides image log n (some_entry log n within) within breach (Some breach) refl breaks.1).1 all.1),
   )
   fault_at n within Unanswered so_far breaks = absurd breaks
+  fault_at n within (Unwritten address) so_far breaks = absurd breaks
 
   first_of : (n : ℕ) (within : n < length log) (b : Broken) (rest before : List Broken) (found : Option MessageBreach) → ((x : Broken) (more : List Broken) → Breaches n (x ∷ more) → IsFault x.breach x.index)
       → Breaches n before → BreaksAs profile image (take n log) (entry_at n within) found → b ∷ rest ≡ before ++ numbered n found → IsFault b.breach b.index

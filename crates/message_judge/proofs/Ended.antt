@@ -4,7 +4,7 @@ use Rattle.elf_loader.specs.Image.{Initial}
 use Rattle.lawful_log.specs.declared.profile.Profile.{Profile}
 use Rattle.message_judge.specs.Laws.{AreLawfulMessages, IsEndedVerdict, IsFirstFault, IsFirstFaultAtEnd, IsMessageVerdict}
 use Rattle.message_judge.specs.declared.verdict.MessageBreach.{MessageBreach}
-use Rattle.message_judge.specs.declared.verdict.MessageBreach.TheVariants.{Incoherent, Unanswered, Unlawful}
+use Rattle.message_judge.specs.declared.verdict.MessageBreach.TheVariants.{Incoherent, Unanswered, Unlawful, Unwritten}
 use Rattle.message_judge.specs.declared.verdict.MessageVerdict.{MessageVerdict}
 use Rattle.message_judge.specs.declared.verdict.MessageVerdict.TheVariants as message
 use Rattle.open_questions.specs.Open.{open_from}
@@ -24,6 +24,7 @@ module _ (profile : Profile) (image : Option Initial) (log : List Logged) where
   at_end (Unlawful rule) index fault = fault
   at_end (Incoherent breach) index fault = fault
   at_end Unanswered index fault = absurd fault
+  at_end (Unwritten address) index fault = absurd fault
 
   -- a log that was unlawful before it ended
   pub still_unlawful : (v : MessageVerdict) → (v ≡ message.Lawful → ⊥) → IsMessageVerdict profile image log v → IsEndedVerdict profile image log v

@@ -1,3 +1,4 @@
 pub mod Told
 pub mod Ended
 pub mod Breaching
+pub mod Going

@@ -10,7 +10,7 @@ use Rattle.lawful_log.specs.declared.rule.LogRule.{LogRule}
 use Rattle.message_judge.specs.declared.breaches.Breaches.{Breaches}
 use Rattle.message_judge.specs.declared.breaches.Broken.{Broken}
 use Rattle.message_judge.specs.declared.verdict.MessageBreach.{MessageBreach}
-use Rattle.message_judge.specs.declared.verdict.MessageBreach.TheVariants.{Incoherent, Unanswered, Unlawful}
+use Rattle.message_judge.specs.declared.verdict.MessageBreach.TheVariants.{Incoherent, Unanswered, Unlawful, Unwritten}
 use Rattle.message_judge.specs.declared.verdict.MessageVerdict.{MessageVerdict}
 use Rattle.message_judge.specs.declared.verdict.MessageVerdict.TheVariants as message
 use Rattle.trace_recorder.specs.declared.logged.Logged.{Logged}
@@ -25,6 +25,7 @@ BreaksAs profile image log e None = BreaksRule profile log e None × coherence.F
 BreaksAs profile image log e (Some (Unlawful rule)) = BreaksRule profile log e (Some rule)
 BreaksAs profile image log e (Some (Incoherent breach)) = BreaksRule profile log e None × coherence.FindsBreach image log e (Some breach)
 BreaksAs profile image log e (Some Unanswered) = ⊥
+BreaksAs profile image log e (Some (Unwritten address)) = ⊥
 
 -- with the entry's number
 abbrev pub numbered : ℕ → Option MessageBreach → List Broken

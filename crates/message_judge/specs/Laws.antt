@@ -1,5 +1,5 @@
 -- Lawful messages, and the first message of another log that breaks a rule.
-use Rattle.std.specs.Prelude.{ℕ, ◌≡◌, ◌+◌, ◌↔◌, Bool, true, false, List, [], ◌∷◌, Option, take}
+use Rattle.std.specs.Prelude.{ℕ, ◌≡◌, ◌+◌, ◌++◌, ◌↔◌, Bool, true, false, List, [], ◌∷◌, Option, take}
 use Rattle.coherent_log.specs.Laws as coherence
 use Rattle.coherent_log.specs.Laws.{IsCoherentLog}
 use Rattle.coherent_log.specs.declared.verdict.CoherenceVerdict.{CoherenceVerdict}
@@ -12,7 +12,7 @@ use Rattle.lawful_log.specs.Rules.{IsLawfulBy}
 use Rattle.lawful_log.specs.declared.profile.Profile.{Profile}
 use Rattle.lawful_log.specs.LawfulLog.{IsLawfulLog}
 use Rattle.message_judge.specs.declared.verdict.MessageBreach.{MessageBreach}
-use Rattle.message_judge.specs.declared.verdict.MessageBreach.TheVariants.{Incoherent, Unanswered, Unlawful}
+use Rattle.message_judge.specs.declared.verdict.MessageBreach.TheVariants.{Incoherent, Unanswered, Unlawful, Unwritten}
 use Rattle.message_judge.specs.declared.verdict.MessageVerdict.{MessageVerdict}
 use Rattle.message_judge.specs.declared.verdict.MessageVerdict.TheVariants as message
 use Rattle.open_questions.specs.Open.{open_from}
@@ -31,6 +31,7 @@ abbrev pub IsFirstFault : Profile → Option Initial → List Logged → Message
 IsFirstFault profile image log (Unlawful rule) index = order.IsFirstBreach profile log rule index × IsCoherentLog image (take index log)
 IsFirstFault profile image log (Incoherent breach) index = coherence.IsFirstBreach image log breach index × IsLawfulBy profile (take (index + 1) log)
 IsFirstFault profile image log Unanswered index = ⊥
+IsFirstFault profile image log (Unwritten address) index = ⊥
 
 abbrev pub IfUnlawful : MessageVerdict → (MessageBreach → ℕ → Type 0) → Type 0
 IfUnlawful message.Lawful P = Unit {0}
@@ -41,6 +42,11 @@ pub record IsMessageVerdict (profile : Profile) (image : Option Initial) (log : 
   pub lawful : (v ≡ message.Lawful) ↔ AreLawfulMessages profile image log
   pub unlawful : IfUnlawful v (λ breach index. IsFirstFault profile image log breach index)
 
+-- a log that goes on behind such a message has the same first one
+abbrev pub FirstFaultStays : Type 0
+FirstFaultStays = (profile : Profile) (image : Option Initial) (log more : List Logged) (breach : MessageBreach) (index : ℕ)
+    → IsMessageVerdict profile image log (message.Unlawful breach index) → IsMessageVerdict profile image (log ++ more) (message.Unlawful breach index)
+
 -- each question has its answer too
 abbrev pub AreEndedMessages : Profile → Option Initial → List Logged → Type 0
 AreEndedMessages profile image log = AreLawfulMessages profile image log × (open_from 0 log ≡ [])
@@ -50,6 +56,7 @@ abbrev pub IsFirstFaultAtEnd : Profile → Option Initial → List Logged → Me
 IsFirstFaultAtEnd profile image log Unanswered index = AreLawfulMessages profile image log × (rest : List ℕ) × (open_from 0 log ≡ index ∷ rest)
 IsFirstFaultAtEnd profile image log (Unlawful rule) index = IsFirstFault profile image log (Unlawful rule) index
 IsFirstFaultAtEnd profile image log (Incoherent breach) index = IsFirstFault profile image log (Incoherent breach) index
+IsFirstFaultAtEnd profile image log (Unwritten address) index = ⊥
 
 -- the verdict on a log that has ended
 pub record IsEndedVerdict (profile : Profile) (image : Option Initial) (log : List Logged) (v : MessageVerdict) : Type 0 where

@@ -60,7 +60,7 @@ pub fn list_breaches(
 }
 
 /// What the next entry breaks.
-fn breach_of(
+pub(crate) fn breach_of(
     order: &Order,
     copies: &Copies,
     profile: Profile,

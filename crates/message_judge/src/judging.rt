@@ -3,7 +3,7 @@ ghost use Rattle.std.specs.Prelude.{IfOk, List, Option};
 ghost use Rattle.std.specs.Option.{option_copied};
 ghost use Rattle.elf_loader.specs.Image.{Initial};
 ghost use Rattle.lawful_log.specs.declared.profile.Profile.{Profile as ProfileValue};
-ghost use Rattle.message_judge.specs.Laws.{AreLawfulMessages, IsCoherenceVerdict, IsEndedVerdict, IsLogVerdict, IsMessageVerdict, LawfulByBoth};
+ghost use Rattle.message_judge.specs.Laws.{AreLawfulMessages, FirstFaultStays, IsCoherenceVerdict, IsEndedVerdict, IsLogVerdict, IsMessageVerdict, LawfulByBoth};
 ghost use Rattle.open_questions.specs.Open.{LeavesOpen, open_from};
 ghost use Rattle.trace_recorder.specs.declared.logged.Logged.{Logged as LoggedValue};
 
@@ -118,4 +118,9 @@ fn first_of(rule: LogRule, index: usize, breach: Breach, other: usize) -> Messag
 /// What is proved of the messages of every machine makes them lawful by this machine's rules, and by TileLink's.
 pub fn lawful_by_both()
     ensures { LawfulByBoth }
+{}
+
+/// A verdict that tells of a message is that on the log however it goes on.
+pub fn first_fault_stays()
+    ensures { FirstFaultStays }
 {}

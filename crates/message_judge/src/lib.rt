@@ -3,10 +3,12 @@
 #![tactic(auto)]
 
 mod breaches;
+mod following;
 mod judging;
 mod verdict;
 
 pub use breaches::{Breaches, Broken, list_breaches};
-pub use judging::{judge_ended, judge_messages, lawful_by_both};
+pub use following::Judge;
+pub use judging::{first_fault_stays, judge_ended, judge_messages, lawful_by_both};
 pub use lawful_log::Profile;
 pub use verdict::{MessageBreach, MessageVerdict};

@@ -14,6 +14,9 @@ pub enum MessageBreach {
     Incoherent(Breach),
     /// No other rule is broken, the log has ended, and the answer that the message asks for wasn't taken.
     Unanswered,
+    /// No other rule is broken but that of answers, and the byte at this address is neither one that the message's hart
+    /// was granted nor one that it wrote. No log tells that: it takes a trace with its operations.
+    Unwritten { address: u64 },
 }
 
 impl MessageBreach {
@@ -25,6 +28,7 @@ impl MessageBreach {
             MessageBreach::Unlawful(rule) => rule.name(),
             MessageBreach::Incoherent(breach) => breach.rule().name(),
             MessageBreach::Unanswered => "ended",
+            MessageBreach::Unwritten { address: _ } => "data-written",
         }
     }
 }

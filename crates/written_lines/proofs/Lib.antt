@@ -1,0 +1,4 @@
+pub mod Listed
+pub mod Noted
+pub mod Passed
+pub mod Looked
