@@ -12,13 +12,15 @@ in Chisel or Verilog prints it, numbers decimal or behind 0x:
 
 SIZE is the logarithm of the bytes, DATA the beat's bytes as a number, the lowest address lowest, or -; SOURCE is by client, a
 Release's as an Acquire's. At the client's port A, C and E are sent, B and D taken; at the manager's the other way round. A
-message stands in the trace where its last beat was accepted. An address becomes 0x80000000 and what it is behind ADDRESS (0);
+message stands in the trace where its last beat was accepted, and is written then: `.. | tools/beats_to_log.py | rvtl check
+--messages -` judges a run as it goes on. An address becomes 0x80000000 and what it is behind ADDRESS (0);
 FILE has `ADDRESS DATA` for each line of memory that isn't all zero at the start, DATA as bytes.
 
 Opcodes and params are those of TileLink 1.8.1. Opcodes that are none of TL-C's transfers are left out, and counted on standard
 error; so is AcquirePerm, which the trace has no word for."""
 import argparse
 import collections
+import os
 import sys
 
 GROW = ["NtoB", "NtoT", "BtoT"]
@@ -124,9 +126,12 @@ def main():
         except KeyError:
             sys.exit(f"line {place}: no message before it has this source or sink: {text.rstrip()}")
         if message:
-            print(message)
+            print(message, flush=True)
     for (channel, opcode), count in sorted(converter.left_out.items()):
         print(f"{count} beats with opcode {opcode} on {channel} were left out", file=sys.stderr)
 
 
-main()
+try:
+    main()
+except BrokenPipeError:  # who reads has found a fault
+    os.dup2(os.open(os.devnull, os.O_WRONLY), sys.stdout.fileno())

@@ -1,9 +1,18 @@
 -- What a file that is read as a log holds, and what is said of the log.
-use Rattle.std.proofs.Common.{ℕ, ◌≡◌, ◌∙◌, Bool, IfSome, List, None, Option, Some, ap, subst, sym}
-use Rattle.std.specs.Prelude.{IfOk, Result}
+use Rattle.std.proofs.Common.{ℕ, ◌≡◌, ◌∙◌, ◌++◌, [], Bool, Err, IfSome, List, None, Ok, Option, Some, ap, append_assoc, false, inl, inr, refl, subst, sym, true}
+use Rattle.std.proofs.lemmas.List.{append-nil}
+use Rattle.std.specs.Io.KnownBytes.{Consumes}
+use Rattle.std.specs.Prelude.{IfErr, IfOk, Result}
 use Rattle.std.specs.declared.alloc.AllocError.{AllocError}
-use Rattle.check_command.specs.Messages.{HoldsLog, memory_told, text_meant}
-use Rattle.command_files.specs.Contents.{Contents, HoldsBytes}
+use Rattle.check_command.proofs.Unread.{log_told, meant_is_not_write}
+use Rattle.check_command.specs.Messages.{HoldsLog, IsLogFault, IsLogIn, IsMeantFault, IsUnlawful, memory_told, text_meant}
+use Rattle.check_command.specs.Piped.{IsBeginning, IsBrokenBy, IsLogOf}
+use Rattle.check_command.specs.declared.messages.MessageCheck.{MessageCheck}
+use Rattle.check_command.specs.declared.messages.ReadLog.{ReadLog}
+use Rattle.command_files.specs.Contents.{Contents, HoldsBytes, is_input}
+use Rattle.command_files.specs.Faults.{Name}
+use Rattle.command_files.specs.declared.fault.Fault.{Fault}
+use Rattle.command_files.specs.declared.fault.Fault.TheVariants.{CannotWrite}
 use Rattle.elf_loader.specs.Image.{Initial}
 use Rattle.log_text.specs.Ending.{ended}
 use Rattle.log_text.specs.Laws.{IsVerdict}
@@ -16,17 +25,38 @@ use Rattle.trace_recorder.specs.declared.logged.Logged.{Logged}
 use Rattle.trace_text.specs.TraceLimits.{IsTrace}
 use Rattle.trace_text.specs.Traces.{text}
 
--- the text that a file of these bytes stands for
-meant_alike : (skip : Bool) (known : Option (List ℕ)) (bytes whole : List ℕ) → IfSome known (λ of_file. of_file ≡ bytes) → text_meant skip bytes ≡ whole → IfSome known (λ of_file. text_meant skip of_file ≡ whole)
-meant_alike skip None bytes whole same is = tt
-meant_alike skip (Some of_file) bytes whole same is = ap (text_meant skip) same ∙ is
+-- all that a file has was read
+all_read : (name : List ℕ) (check : MessageCheck) (t : History) (known : Option (List ℕ)) (bytes : List ℕ) → IfSome known (λ of_file. of_file ≡ bytes) → text_meant check.skip bytes ≡ text t
+    → IfSome known (λ of_file. (read : List ℕ) × (rest : List ℕ) × IsLogIn name check t of_file read rest)
+all_read name check t None bytes same is = tt
+all_read name check t (Some of_file) bytes same is = (bytes, [], record { parts = same ∙ sym (append-nil bytes); bytes = is; far = inl refl })
 
--- all of it is the text of the trace that was read
-pub log_held : (held : Contents) (name : List ℕ) (skip : Bool) (bytes source : List ℕ) (t : History) → HoldsBytes held name bytes → source ≡ bytes → IsTrace t × (text_meant skip source ≡ text t) → HoldsLog held name skip t
-log_held held name skip bytes source t same is found = record {
-  is_trace = found.0;
-  bytes = meant_alike skip (held name) bytes (text t) same (ap (text_meant skip) (sym is) ∙ found.1);
-}
+-- it is the text of the trace that was read
+pub log_held : (held : Contents) (name : List ℕ) (check : MessageCheck) (bytes : List ℕ) (r : Result ReadLog Fault) → HoldsBytes held name bytes → IfOk r (λ log. IsLogOf check.skip bytes log.trace.history)
+    → IfOk r (λ log. HoldsLog held name check log.trace.history)
+log_held held name check bytes (Ok log) same found = record { is_trace = found.0; bytes = all_read name check log.trace.history (held name) bytes same found.1 }
+log_held held name check bytes (Err fault) same found = tt
+
+pub logs_told : (held : Contents) (name : Name) (bytes : List ℕ) (skip : Bool) (r : Result ReadLog Fault) → HoldsBytes held name.now bytes → IfErr r (IsMeantFault skip bytes name) → IfErr r (IsLogFault held skip name)
+logs_told held name bytes skip (Ok log) holds told = tt
+logs_told held name bytes skip (Err fault) holds told = log_told held name bytes holds skip bytes fault refl told
+
+pub logs_not_write : (name : Name) (bytes : List ℕ) (skip : Bool) (r : Result ReadLog Fault) → IfErr r (IsMeantFault skip bytes name) → IfErr r (λ fault. fault ≡ CannotWrite → ⊥)
+logs_not_write name bytes skip (Ok log) told = tt
+logs_not_write name bytes skip (Err fault) told = meant_is_not_write skip bytes name fault told
+
+-- a beginning of standard input was read, in which a message breaks a rule
+begun_by : (name : List ℕ) (check : MessageCheck) (t : History) (known left : Option (List ℕ)) (bytes read : List ℕ) → is_input name ≡ true → check.all ≡ false → Consumes known left bytes
+    → IsBeginning bytes read → text_meant check.skip read ≡ text t → IsUnlawful check.profile t → IfSome known (λ of_file. (read : List ℕ) × (rest : List ℕ) × IsLogIn name check t of_file read rest)
+begun_by name check t None left bytes read input first taken begins is unlawful = tt
+begun_by name check t (Some of_file) None bytes read input first taken begins is unlawful = absurd taken
+begun_by name check t (Some of_file) (Some left) bytes read input first taken begins is unlawful =
+    (read, begins.0 ++ left, record { parts = taken ∙ ap (λ l. l ++ left) begins.1 ∙ append_assoc read begins.0 left; bytes = is; far = inr (input, first, unlawful) })
+
+pub broken_held : (held : Contents) (name : List ℕ) (check : MessageCheck) (left : Option (List ℕ)) (bytes : List ℕ) (t : History) → is_input name ≡ true → check.all ≡ false → Consumes (held name) left bytes
+    → IsBrokenBy bytes check t → HoldsLog held name check t
+broken_held held name check left bytes t input first taken (read, begins, found, unlawful) =
+    record { is_trace = found.0; bytes = begun_by name check t (held name) left bytes read input first taken begins found.1 unlawful }
 
 -- what is said of the memory and the log that are handed on is said of the trace
 pub verdict_on : (ended : Bool) (profile : Profile) (t : History) (memory : Option Initial) (log : List Logged) (r : Result MessageVerdict AllocError) → memory ≡ memory_told t.image → log ≡ t.log → IfOk r (IsVerdict ended profile memory log) → IfOk r (IsVerdict ended profile (memory_told t.image) t.log)

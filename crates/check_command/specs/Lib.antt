@@ -1,3 +1,4 @@
 pub mod Breaches
 pub mod Checking
 pub mod Messages
+pub mod Piped

@@ -1,11 +1,11 @@
 -- What a check of messages has done.
 use Rattle.std.specs.Io.KnownBytes.{Appends}
-use Rattle.std.specs.Prelude.{◌≡◌, ◌⊎◌, ◌==◌, ℕ, Bool, true, false, IfSome, List, None, Option, Some, if◌then◌else◌, not}
+use Rattle.std.specs.Prelude.{◌≡◌, ◌⊎◌, ◌==◌, ◌++◌, [], ℕ, Bool, true, false, IfSome, List, None, Option, Some, if◌then◌else◌, not}
 use Rattle.std.specs.List.{list_any}
 use Rattle.command_files.specs.Faults.{IsLongFirst, Name}
 use Rattle.check_command.specs.Checking.{GoOnBehindATrace, IsNoTraceText}
 use Rattle.check_command.specs.declared.messages.MessageCheck.{MessageCheck}
-use Rattle.command_files.specs.Contents.{Contents}
+use Rattle.command_files.specs.Contents.{Contents, is_input}
 use Rattle.command_files.specs.declared.fault.Fault.TheVariants.{BytesAfterTrace, CannotRead, CannotWrite, OutOfMemory, Text}
 use Rattle.command_files.specs.declared.fault.Fault.{Fault}
 use Rattle.elf_loader.specs.Image.{Initial}
@@ -16,7 +16,10 @@ use Rattle.log_text.specs.Verdicts.{told_text}
 use Rattle.log_text.specs.Breaches.{AreCounted}
 use Rattle.log_text.specs.FoundBreaches.{Breaches}
 use Rattle.log_text.specs.Laws.{IsVerdict}
+use Rattle.log_text.specs.MessageBreach.{MessageBreach}
+use Rattle.log_text.specs.MessageBreach.TheVariants.{Unanswered, Unwritten}
 use Rattle.log_text.specs.MessageVerdict.{MessageVerdict}
+use Rattle.log_text.specs.MessageVerdict.TheVariants.{Lawful, Unlawful}
 use Rattle.log_text.specs.Profile.{Profile}
 use Rattle.text_fields.specs.Writing.{Begins}
 use Rattle.trace_recorder.specs.History.{History}
@@ -24,19 +27,55 @@ use Rattle.trace_recorder.specs.declared.logged.Logged.{Logged}
 use Rattle.trace_text.specs.TraceLimits.{IsTrace}
 use Rattle.trace_text.specs.Traces.{text}
 use Rattle.trace_text.specs.declared.fault.TextError.{TextError}
+use Rattle.written_lines.specs.Written.{unwritten_in}
+use Rattle.written_lines.specs.declared.checking.Unwritten.{Unwritten as FoundByte}
 
 -- the trace's text that a file stands for: the messages by which harts came to hold what S lines say, no message that is to be skipped, each without its name, and the lines that say how its harts ended, which may be left out, where all still run
 abbrev pub text_meant : (skip : Bool) → List ℕ → List ℕ
 text_meant skip bytes = ending.ended (without_names (meant skip bytes))
 
--- the file has the text of this trace, and nothing else, but for names, for what is held at the start, and for what is skipped
-pub record HoldsLog (held : Contents) (name : List ℕ) (skip : Bool) (trace : History) : Type 0 where
-  pub is_trace : IsTrace trace
-  pub bytes : IfSome (held name) (λ known. text_meant skip known ≡ text trace)
-
 -- memory at the start, if the trace tells of it: it has an I line for each line that isn't all zero
 abbrev pub memory_told : Initial → Option Initial
 memory_told image = if list_any (λ byte. not (byte == 0)) image.bytes then Some image else None
+
+-- a message of the trace's log breaks a rule of the profile
+abbrev pub IsUnlawful : Profile → History → Type 0
+IsUnlawful profile trace = (breach : MessageBreach) × (index : ℕ) × IsVerdict false profile (memory_told trace.image) trace.log (Unlawful breach index)
+
+-- nothing stands behind what was read, or it was read of standard input as it came, until a message broke a rule, and not all that do were asked for
+abbrev pub IsReadFar : (name : List ℕ) → MessageCheck → History → (rest : List ℕ) → Type 0
+IsReadFar name check trace rest = (rest ≡ []) ⊎ ((is_input name ≡ true) × (check.all ≡ false) × IsUnlawful check.profile trace)
+
+-- these bytes, behind which no others have to be read, stand for this trace
+pub record IsLogIn (name : List ℕ) (check : MessageCheck) (trace : History) (known read rest : List ℕ) : Type 0 where
+  pub parts : known ≡ read ++ rest
+  pub bytes : text_meant check.skip read ≡ text trace
+  pub far : IsReadFar name check trace rest
+
+-- the file has the text of this trace, and nothing else that has to be read, but for names, for what is held at the start, and for what is skipped
+pub record HoldsLog (held : Contents) (name : List ℕ) (check : MessageCheck) (trace : History) : Type 0 where
+  pub is_trace : IsTrace trace
+  pub bytes : IfSome (held name) (λ known. (read : List ℕ) × (rest : List ℕ) × IsLogIn name check trace known read rest)
+
+abbrev pub is_unanswered : MessageBreach → Bool
+is_unanswered Unanswered = true
+is_unanswered _ = false
+
+-- no message breaks a rule of messages, by a verdict on them: at most an answer is missing
+abbrev pub are_lawful_by : MessageVerdict → Bool
+are_lawful_by Lawful = true
+are_lawful_by (Unlawful breach index) = is_unanswered breach
+
+-- then a byte that a hart sends, and neither was granted nor wrote, is told first
+abbrev pub with_unwritten : Option FoundByte → MessageVerdict → MessageVerdict
+with_unwritten None verdict = verdict
+with_unwritten (Some found) verdict = if are_lawful_by verdict then Unlawful (Unwritten found.address) found.index else verdict
+
+-- the verdict on a trace whose messages have ended or may go on
+pub record IsTraceVerdict (ended : Bool) (profile : Profile) (trace : History) (verdict : MessageVerdict) : Type 0 where
+  pub by_messages : MessageVerdict
+  pub judged : IsVerdict ended profile (memory_told trace.image) trace.log by_messages
+  pub told : verdict ≡ with_unwritten (unwritten_in trace) by_messages
 
 -- the breaches of the log, where they are asked for
 abbrev pub AreListed : (all : Bool) → Profile → Option Initial → List Logged → Option Breaches → Type 0
@@ -44,12 +83,12 @@ AreListed true profile memory log (Some breaches) = AreCounted profile memory lo
 AreListed true profile memory log None = ⊥
 AreListed false profile memory log breaches = breaches ≡ None
 
--- what was appended is the verdict on the messages of the trace in the file by the profile's rules, which have ended or may go on, or all their breaches
+-- what was appended is the verdict on the trace in the file by the profile's rules, or all breaches of its messages
 pub record IsLogJudged (held : Contents) (name : List ℕ) (check : MessageCheck) (verdict : MessageVerdict) (old new : Option (List ℕ)) : Type 0 where
   pub trace : History
   pub breaches : Option Breaches
-  pub file : HoldsLog held name check.skip trace
-  pub judged : IsVerdict check.ended check.profile (memory_told trace.image) trace.log verdict
+  pub file : HoldsLog held name check trace
+  pub judged : IsTraceVerdict check.ended check.profile trace verdict
   pub listed : AreListed check.all check.profile (memory_told trace.image) trace.log breaches
   pub printed : Appends old new (told_text verdict breaches)
 
@@ -58,8 +97,8 @@ pub record IsLogCutOff (held : Contents) (name : List ℕ) (check : MessageCheck
   pub trace : History
   pub verdict : MessageVerdict
   pub breaches : Option Breaches
-  pub file : HoldsLog held name check.skip trace
-  pub judged : IsVerdict check.ended check.profile (memory_told trace.image) trace.log verdict
+  pub file : HoldsLog held name check trace
+  pub judged : IsTraceVerdict check.ended check.profile trace verdict
   pub listed : AreListed check.all check.profile (memory_told trace.image) trace.log breaches
   pub begun : Begins old new (told_text verdict breaches)
 

@@ -4,7 +4,9 @@
 mod checking;
 mod messages;
 mod objecting;
+mod piped;
 mod reading;
+mod watch;
 
 pub use checking::{check_file, remark_unjudged};
 pub use messages::{MessageCheck, check_messages};

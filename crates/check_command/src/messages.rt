@@ -1,35 +1,44 @@
 //! `rvtl check --messages`: the log of a trace's messages is judged, and the verdict printed.
 
-ghost use Rattle.std.specs.Prelude.{◌≡◌, ◌≢◌, ◌==◌, IfErr, IfOk, OnErr, not};
+ghost use Rattle.std.specs.Prelude.{◌≡◌, ◌≢◌, ◌==◌, IfErr, IfOk, IsTrue, List, OnErr, Some, not, true, ℕ};
 ghost use Rattle.std.specs.Option.{option_copied};
 ghost use Rattle.std.specs.List.{list_any};
 ghost use Rattle.text_fields.specs.Writing.{Writes};
 ghost use Rattle.log_text.specs.Verdicts.{told_text};
-ghost use Rattle.check_command.specs.Messages.{AreListed, IsLogCutOff, HoldsLog, IsLogFault, IsLogJudged, IsMeantFault, memory_told, sourced, text_meant};
+ghost use Rattle.check_command.specs.Breaches.{IsBreachLine, WritesLines, breaches_told, told_line};
+ghost use Rattle.check_command.specs.Messages.{AreListed, IsLogCutOff, HoldsLog, IsLogFault, IsLogJudged, IsMeantFault, IsTraceVerdict, are_lawful_by, is_unanswered, memory_told, sourced, text_meant, with_unwritten};
+ghost use Rattle.check_command.specs.Piped.{HasPiped, IsLogOf};
 ghost use Rattle.log_text.specs.Ending as ending;
 ghost use Rattle.log_text.specs.Meant as meaning;
 ghost use Rattle.log_text.specs.Names.{without_names};
 ghost use Rattle.log_text.specs.Laws.{IsVerdict};
-ghost use Rattle.command_files.specs.Faults.{LeavesAtFault};
+ghost use Rattle.command_files.specs.Contents.{is_input};
+ghost use Rattle.command_files.specs.Faults.{IsTextFault, LeavesAtFault};
+ghost use Rattle.command_files.specs.Messages.{is_plain};
 ghost use Rattle.trace_text.specs.TraceLimits.{IsTrace};
 ghost use Rattle.trace_text.specs.Traces as traces;
 
 use crate::objecting::{Told, told_of};
+use crate::piped::{Piped, piped_log};
 use crate::reading::whole_trace;
-use command_files::{Escaped, Fault, Files, remark, text_in};
+use command_files::{Fault, Files, put_named, remark, text_in};
 use elf_loader::Image;
 use log_text::message_judge::{
-    Breaches, Broken, MessageVerdict, Profile, judge_ended, judge_messages, list_breaches,
+    Breaches, Broken, MessageBreach, MessageVerdict, Profile, judge_ended, judge_messages,
+    list_breaches,
 };
 use log_text::{
     LogText, Place, Unanswered, end_text, foreign_messages, meant_text, misnamed_line, put_told,
     source_line, without_names,
 };
-use open_questions::left_open;
+use open_questions::{Open, left_open};
 use std::alloc::{AllocError, Global};
 use std::io::{self, Write};
+use text_fields::{Piece, put, put_pieces};
+use trace_operations::are_runs;
 use trace_recorder::{Logged, Trace};
 use trace_text::TextError;
+use written_lines::{Unwritten, unwritten_in};
 
 /// What is asked of the messages of a log.
 #[derive(Clone, Copy, Debug, PartialEq, Eq)]
@@ -67,13 +76,13 @@ pub fn check_messages<'a, F: Files, O: Write, E: Write>(
     ensures quiet { IfOk result (λ verdict. verdict ≡ MessageVerdict.Lawful → E.contents err.new ≡ E.contents err.old) }
     ensures silent { OnErr result (E.contents err.new ≡ E.contents err.old) }
 {
-    let read = read_log(alloc, files, file, check.skip)?;
+    let read = read_log(alloc, files, file, check)?;
     let Ok(answer) = answered(alloc, &read.trace, check) else {
         return Err(Fault::OutOfMemory);
     };
     let verdict = answer.verdict;
     let text = read.text(check.skip);
-    remark_judged(alloc, files, text, read.trace.log(), verdict);
+    remark_judged(alloc, files, text, &read.trace, verdict);
     if let Err(error) = print(verdict, answer.breaches.as_ref(), out) {
         return Err(Fault::writing(error));
     }
@@ -89,11 +98,11 @@ pub fn check_messages<'a, F: Files, O: Write, E: Write>(
 
 /// A file's log.
 #[derive(Drop)]
-struct ReadLog {
-    bytes: Vec<u8>,
+pub(crate) struct ReadLog {
+    pub(crate) bytes: Vec<u8>,
     /// What the bytes stand for, with names.
-    meant: Vec<u8>,
-    trace: Trace,
+    pub(crate) meant: Vec<u8>,
+    pub(crate) trace: Trace,
 }
 
 impl ReadLog {
@@ -106,26 +115,71 @@ impl ReadLog {
     }
 }
 
-/// Reads the log that a file stands for.
+/// Reads the log that a file stands for. Of standard input no more is read than it takes for a message to break a rule,
+/// where not all are asked for.
 fn read_log<'a, F: Files>(
     alloc: Global,
     files: &mut F,
     file: &'a str,
-    skip: bool,
+    check: MessageCheck,
 ) -> Result<ReadLog, Fault<'a>>
-    ensures read { IfOk result (λ read. HoldsLog (F.held files.old) file.entry.now skip read.trace.history) }
-    ensures told { IfErr result (IsLogFault (F.held files.old) skip file.entry) }
+    ensures read { IfOk result (λ read. HoldsLog (F.held files.old) file.entry.now check read.trace.history) }
+    ensures told { IfErr result (IsLogFault (F.held files.old) check.skip file.entry) }
     ensures reading { IfErr result (λ fault. fault ≢ Fault.CannotWrite) }
     ensures spared { F.held files.new ≡ F.held files.old }
 {
+    let piped = come(alloc, files, file, check)?;
+    match piped {
+        Piped::Whole(bytes) => log_in(alloc, files, file, bytes, check.skip),
+        Piped::Broken(log) => {
+            remark_skipped(alloc, files, check.skip, &log.bytes);
+            Ok(log)
+        }
+    }
+}
+
+/// What a file has, or as much of standard input as that takes.
+fn come<'a, F: Files>(
+    alloc: Global,
+    files: &mut F,
+    file: &'a str,
+    check: MessageCheck,
+) -> Result<Piped, Fault<'a>>
+    ensures read { IfOk result (HasPiped (F.held files.old) file.entry.now check) }
+    ensures fault { IfErr result (IsTextFault (F.held files.old) file.entry) }
+    ensures spared { F.held files.new ≡ F.held files.old }
+{
+    if is_input(file) && !check.all {
+        return piped_log(alloc, files, file, check);
+    }
     let bytes = text_in(alloc, files, file)?;
+    Ok(Piped::Whole(bytes))
+}
+
+/// Whether standard input is read under this name.
+fn is_input(file: &str) -> bool
+    ensures { result ≡ is_input file.now }
+{
+    file == "-"
+}
+
+/// The log that a file of these bytes stands for.
+fn log_in<'a, F: Files>(
+    alloc: Global,
+    files: &mut F,
+    file: &'a str,
+    bytes: Vec<u8>,
+    skip: bool,
+) -> Result<ReadLog, Fault<'a>>
+    ensures read { IfOk result (λ read. IsLogOf skip bytes.items read.trace.history) }
+    ensures told { IfErr result (IsMeantFault skip bytes.items file.entry) }
+    ensures spared { F.held files.new ≡ F.held files.old }
+{
     let source = bytes.as_slice();
     let Ok(meant) = meant_text(alloc, source, skip) else {
         return Err(Fault::OutOfMemory);
     };
-    if skip {
-        remark_skipped(alloc, files, source);
-    }
+    remark_skipped(alloc, files, skip, source);
     let trace = whole_log(alloc, files, file, source, meant.as_slice(), skip)?;
     Ok(ReadLog {
         bytes,
@@ -178,7 +232,7 @@ fn sourced<'a>(fault: Fault<'a>, bytes: &[u8], skip: bool) -> Fault<'a>
 }
 
 /// The text of the trace that is meant, where messages may have names.
-fn text_meant(alloc: Global, meant: &[u8]) -> Result<Vec<u8>, AllocError>
+pub(crate) fn text_meant(alloc: Global, meant: &[u8]) -> Result<Vec<u8>, AllocError>
     ensures { IfOk result (λ text. text.items ≡ ending.ended (without_names meant.now)) }
 {
     let mut text = without_names(alloc, meant)?;
@@ -186,10 +240,13 @@ fn text_meant(alloc: Global, meant: &[u8]) -> Result<Vec<u8>, AllocError>
     Ok(text)
 }
 
-/// Remarks how many messages were skipped.
-fn remark_skipped<F: Files>(alloc: Global, files: &mut F, bytes: &[u8])
+/// Remarks how many messages were skipped, where they are to be.
+fn remark_skipped<F: Files>(alloc: Global, files: &mut F, skip: bool, bytes: &[u8])
     ensures { F.held files.new ≡ F.held files.old }
 {
+    if !skip {
+        return;
+    }
     let count = foreign_messages(bytes);
     if count != 0 {
         remark(
@@ -242,7 +299,7 @@ impl Drop for Answer {
 
 /// The verdict on a trace's log, and its breaches where they are asked for.
 fn answered(alloc: Global, trace: &Trace, check: MessageCheck) -> Result<Answer, AllocError>
-    ensures verdict { IfOk result (λ answer. IsVerdict check.ended check.profile (memory_told trace.now.history.image) trace.now.history.log answer.verdict) }
+    ensures verdict { IfOk result (λ answer. IsTraceVerdict check.ended check.profile trace.now.history answer.verdict) }
     ensures breaches { IfOk result (λ answer. AreListed check.all check.profile (memory_told trace.now.history.image) trace.now.history.log answer.breaches) }
 {
     let verdict = judged(alloc, trace, check.profile, check.ended)?;
@@ -267,8 +324,58 @@ fn listed(
     Ok(Some(breaches))
 }
 
-/// The verdict on a trace's log by the profile's rules, which has ended or may go on.
+/// The verdict on a trace: that on its messages, and where none of them breaks another rule, whether the bytes that harts
+/// send are those that they were granted and wrote.
 fn judged(
+    alloc: Global,
+    trace: &Trace,
+    profile: Profile,
+    ended: bool,
+) -> Result<MessageVerdict, AllocError>
+    ensures { IfOk result (IsTraceVerdict ended profile trace.now.history) }
+{
+    let verdict = by_messages(alloc, trace, profile, ended)?;
+    if !are_lawful_by(verdict) {
+        return Ok(verdict);
+    }
+    let unwritten = unwritten_in(alloc, trace)?;
+    Ok(with_unwritten(verdict, unwritten))
+}
+
+/// Whether each message keeps each rule of messages, by a verdict on them.
+fn are_lawful_by(verdict: MessageVerdict) -> bool
+    ensures { result ≡ are_lawful_by verdict }
+{
+    match verdict {
+        MessageVerdict::Lawful => true,
+        MessageVerdict::Unlawful { breach, index: _ } => is_unanswered(breach),
+    }
+}
+
+fn is_unanswered(breach: MessageBreach) -> bool
+    ensures { result ≡ is_unanswered breach }
+{
+    matches!(breach, MessageBreach::Unanswered)
+}
+
+/// The verdict on a trace whose messages are lawful, and in which such a byte is found, or none.
+fn with_unwritten(verdict: MessageVerdict, found: Option<Unwritten>) -> MessageVerdict
+    requires { are_lawful_by verdict ≡ true }
+    ensures { result ≡ with_unwritten found verdict }
+{
+    match found {
+        Some(unwritten) => MessageVerdict::Unlawful {
+            breach: MessageBreach::Unwritten {
+                address: unwritten.address,
+            },
+            index: unwritten.index,
+        },
+        None => verdict,
+    }
+}
+
+/// The verdict on a trace's log by the profile's rules, which has ended or may go on.
+fn by_messages(
     alloc: Global,
     trace: &Trace,
     profile: Profile,
@@ -289,12 +396,12 @@ fn remark_judged<F: Files>(
     alloc: Global,
     files: &mut F,
     text: LogText<'_>,
-    log: &[Logged],
+    trace: &Trace,
     verdict: MessageVerdict,
 )
     ensures { F.held files.new ≡ F.held files.old }
 {
-    if log.is_empty() {
+    if trace.log().is_empty() {
         remark(
             alloc,
             files,
@@ -302,7 +409,21 @@ fn remark_judged<F: Files>(
         );
     }
     if verdict == MessageVerdict::Lawful {
-        remark_open(alloc, files, text, log);
+        remark_no_run(alloc, files, trace);
+        remark_open(alloc, files, text, trace.log());
+    }
+}
+
+/// Remarks that bytes weren't compared with what harts wrote, where a trace tells of operations and its lists are no runs.
+fn remark_no_run<F: Files>(alloc: Global, files: &mut F, trace: &Trace)
+    ensures { F.held files.new ≡ F.held files.old }
+{
+    if !trace.performed().is_empty() && !are_runs(trace) {
+        remark(
+            alloc,
+            files,
+            "its R lines are no runs of its harts, so what they send wasn't compared with what they wrote",
+        );
     }
 }
 
@@ -314,32 +435,44 @@ fn remark_open<F: Files>(alloc: Global, files: &mut F, text: LogText<'_>, log: &
     let Ok(Some(open)) = left_open(alloc, log) else {
         return;
     };
-    let Some(question) = Unanswered::of(log, open.first) else {
-        return;
-    };
-    let Some(place) = Place::of(text, open.first) else {
-        return;
-    };
-    if open.count == 1 {
-        remark(
-            alloc,
-            files,
-            format_args!("{place}: {question} (with --ended this is a fault)"),
-        );
-    } else {
-        remark(
-            alloc,
-            files,
-            format_args!(
-                "{place}: {question}, the first of {} questions without an answer (with --ended this is a fault)",
-                open.count
-            ),
-        );
+    if let Ok(Some(note)) = open_note(alloc, text, log, open) {
+        remark(alloc, files, note);
     }
 }
 
+/// Where the first question without an answer stands, and how many there are. None where the text has no such message.
+fn open_note(
+    alloc: Global,
+    text: LogText<'_>,
+    log: &[Logged],
+    open: Open,
+) -> io::Result<Option<String>> {
+    let (Some(place), Some(question)) = (
+        Place::of(text, open.first),
+        Unanswered::of(log, open.first),
+    ) else {
+        return Ok(None);
+    };
+    let mut note = Vec::new(alloc);
+    place.put(&mut note)?;
+    put(&mut note, b": ")?;
+    question.put(&mut note)?;
+    if open.count != 1 {
+        put_pieces(
+            &mut note,
+            &[
+                Piece::Text(b", the first of "),
+                Piece::Number(open.count as u64),
+                Piece::Text(b" questions without an answer"),
+            ],
+        )?;
+    }
+    put(&mut note, b" (with --ended this is a fault)")?;
+    Ok(String::from_utf8(note).ok())
+}
+
 /// The image, if an I line tells of it.
-fn memory_at_start(trace: &Trace) -> Option<&Image>
+pub(crate) fn memory_at_start(trace: &Trace) -> Option<&Image>
     ensures { option_copied result ≡ memory_told trace.now.history.image }
 {
     let image = trace.image();
@@ -387,13 +520,15 @@ fn object<E: Write>(
     breaches: Option<&Breaches>,
     err: &mut E,
 ) -> io::Result<()>
-    ensures { verdict ≡ MessageVerdict.Lawful → E.contents err.new ≡ E.contents err.old }
+    ensures lawful { verdict ≡ MessageVerdict.Lawful → E.contents err.new ≡ E.contents err.old }
+    ensures told { IsTrue (is_plain log.entry.file.now) → WritesLines (IsBreachLine log.entry.profile log.entry.trace.now.history text.entry log.entry.file.now)
+        (breaches_told verdict (option_copied breaches.entry)) (E.contents err.old) (E.contents err.new) result }
 {
     match verdict {
         MessageVerdict::Lawful => Ok(()),
         MessageVerdict::Unlawful { breach, index } => match breaches {
             Some(breaches) if breaches.count != 0 => put_listed(log, text, &breaches.listed, err),
-            _ => put_breach(log, text, Broken { breach, index }, err),
+            _ => put_listed(log, text, &[Broken { breach, index }], err),
         },
     }
 }
@@ -403,7 +538,10 @@ fn put_listed<E: Write>(
     text: LogText<'_>,
     listed: &[Broken],
     err: &mut E,
-) -> io::Result<()> {
+) -> io::Result<()>
+    ensures { IsTrue (is_plain log.entry.file.now) → WritesLines (IsBreachLine log.entry.profile log.entry.trace.now.history text.entry log.entry.file.now)
+        listed.now (E.contents err.old) (E.contents err.new) result }
+{
     for broken in listed {
         put_breach(log, text, *broken, err)?;
     }
@@ -416,16 +554,20 @@ fn put_breach<E: Write>(
     text: LogText<'_>,
     broken: Broken,
     err: &mut E,
-) -> io::Result<()> {
-    let JudgedLog {
-        file,
-        trace,
-        profile,
-    } = log;
-    let harts = trace.harts() as u8;
-    let Some(told) = told_of(trace.log(), profile, harts, text, broken) else {
-        return Ok(());
-    };
-    let Told { place, cause } = told;
-    writeln!(err, "rvtl: {}: {place}: {cause}", Escaped(file))
+) -> io::Result<()>
+    ensures { IsTrue (is_plain log.entry.file.now) → (line : List ℕ) × IsBreachLine log.entry.profile log.entry.trace.now.history text.entry log.entry.file.now broken line
+        × Writes (E.contents err.old) (E.contents err.new) line result }
+{
+    let harts = log.trace.harts() as u8;
+    match told_of(log.trace.log(), log.profile, harts, text, broken) {
+        Some(told) => put_line(log.file, &told, err),
+        None => Ok(()),
+    }
+}
+
+fn put_line<E: Write>(file: &str, told: &Told<'_>, err: &mut E) -> io::Result<()>
+    ensures { IsTrue (is_plain file.now) → Writes (E.contents err.old) (E.contents err.new) (told_line file.now (Some told.now)) result }
+{
+    put_named(b"rvtl: ", file, &[Piece::Text(b": ")], err)?;
+    told.put(err)
 }

@@ -1,10 +1,14 @@
 //! What is told of a message that breaks a rule.
 
-ghost use Rattle.check_command.specs.Breaches.{IsBreachTold, IsCauseOf};
+ghost use Rattle.std.specs.Prelude.{◌++◌, codes};
+ghost use Rattle.check_command.specs.Breaches.{IsBreachTold, IsCauseOf, cause_text, place_line};
+ghost use Rattle.log_text.specs.Words.{place_text};
+ghost use Rattle.text_fields.specs.Writing.{Writes};
 
 use log_text::message_judge::{Broken, MessageBreach, Profile};
-use log_text::{Contradiction, LogText, Objection, Place, Unanswered};
-use std::fmt::{self, Display, Formatter};
+use log_text::{Contradiction, LogText, Objection, Place, Unanswered, UnwrittenByte};
+use std::io::{self, Write};
+use text_fields::put;
 use trace_recorder::Logged;
 
 /// What stands against a message, in words.
@@ -13,6 +17,7 @@ pub(crate) enum Cause<'a> {
     Objection(Objection),
     Contradiction(Contradiction<'a>),
     Unanswered(Unanswered),
+    Unwritten(UnwrittenByte),
 }
 
 /// Where a message stands, and what stands against it.
@@ -61,15 +66,46 @@ fn cause_of<'a>(
             Some(question) => Some(Cause::Unanswered(question)),
             None => None,
         },
+        MessageBreach::Unwritten { address } => match UnwrittenByte::of(log, index, address) {
+            Some(byte) => Some(Cause::Unwritten(byte)),
+            None => None,
+        },
     }
 }
 
-impl Display for Cause<'_> {
-    fn fmt<W: fmt::Write>(&self, f: &mut Formatter<W>) -> fmt::Result {
+impl Cause<'_> {
+    fn put<W: Write>(&self, out: &mut W) -> io::Result<()>
+        ensures { Writes (W.contents out.old) (W.contents out.new) (cause_text self.now) result }
+    {
         match self {
-            Cause::Objection(objection) => write!(f, "{objection}"),
-            Cause::Contradiction(contradiction) => write!(f, "{contradiction}"),
-            Cause::Unanswered(question) => write!(f, "{question}"),
+            Cause::Objection(objection) => objection.put(out),
+            Cause::Contradiction(contradiction) => contradiction.put(out),
+            Cause::Unanswered(question) => question.put(out),
+            Cause::Unwritten(byte) => byte.put(out),
         }
+    }
+}
+
+impl Told<'_> {
+    /// Writes it, and ends the line.
+    pub(crate) fn put<W: Write>(&self, out: &mut W) -> io::Result<()>
+        ensures { Writes (W.contents out.old) (W.contents out.new) (place_line self.now) result }
+    {
+        self.put_place(out)?;
+        self.put_cause(out)
+    }
+
+    fn put_place<W: Write>(&self, out: &mut W) -> io::Result<()>
+        ensures { Writes (W.contents out.old) (W.contents out.new) (place_text self.now.place ++ codes ": ") result }
+    {
+        self.place.put(out)?;
+        put(out, b": ")
+    }
+
+    fn put_cause<W: Write>(&self, out: &mut W) -> io::Result<()>
+        ensures { Writes (W.contents out.old) (W.contents out.new) (cause_text self.now.cause ++ codes "\n") result }
+    {
+        self.cause.put(out)?;
+        put(out, b"\n")
     }
 }

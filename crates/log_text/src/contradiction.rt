@@ -1,14 +1,19 @@
 //! What a message of a log contradicts, in words.
-ghost use Rattle.std.specs.Prelude.{◌≡◌};
+ghost use Rattle.std.specs.Prelude.{◌≡◌, ◌++◌, Some, codes, decimal};
 ghost use Rattle.log_text.specs.Contradictions.{Contradicts, cause_of, index_of, probe_of, since_of};
 ghost use Rattle.log_text.specs.Places.{IsPlaceOf};
+ghost use Rattle.log_text.specs.Words.{answered_text, beginning_text, breach_text, brought_text, by_text, contradiction_text, holding_text, perm_in, perm_text};
+ghost use Rattle.text_fields.specs.Writing.{Writes};
+ghost use Rattle.tl_types.specs.Shrink.{shrunk_by};
+ghost use Rattle.trace_text.specs.Words as words;
 
 use crate::place::{LogText, Place};
-use crate::spelling::{Routed, cap_name, change_name};
+use crate::spelling::{cap_name, change_name, put_lead};
 use coherent_log::{Breach, Held, Probed};
-use std::fmt;
-use std::fmt::Display;
-use tl_types::{Body, Perm, shrink};
+use std::io::{self, Write};
+use text_fields::Piece::{Number, Text};
+use text_fields::{put, put_pieces};
+use tl_types::{Body, Cap, Perm, shrink};
 use trace_recorder::Logged;
 
 /// A message that breaks a rule of the coherent log, and where in the log's text stands what it contradicts. Its
@@ -43,87 +48,226 @@ impl<'a> Contradiction<'a> {
         })
     }
 
+    /// Writes it. After the writer's fault a beginning of it went out.
+    pub fn put<W: Write>(&self, out: &mut W) -> io::Result<()>
+        ensures { Writes (W.contents out.old) (W.contents out.new) (contradiction_text self.now) result }
+    {
+        put_lead(&self.entry, out)?;
+        self.put_cause(out)
+    }
+
     // What stands before the entry, and what the entry should be by it.
-    fn put_cause<W: fmt::Write>(&self, f: &mut fmt::Formatter<W>) -> fmt::Result {
+    fn put_cause<W: Write>(&self, out: &mut W) -> io::Result<()>
+        ensures { Writes (W.contents out.old) (W.contents out.new) (breach_text self.now.breach self.now) result }
+    {
+        let hart = usize::from(self.entry.hart);
         match self.breach {
             Breach::PermissionHeld { held } => {
-                self.put_holding(usize::from(self.entry.hart), held, f)?;
-                put_beginning(&self.entry.message.body, perm_in(held), f)
+                let behind = beginning(&self.entry.message.body, perm_in(held));
+                put_holding(hart, held, self.cause, behind, out)
             }
             Breach::ProbeObeyed { held, probe } => {
-                self.put_holding(usize::from(self.entry.hart), held, f)?;
-                self.put_answer(perm_in(held), probe, f)
+                put_obeying(hart, held, self.cause, probe, self.probe, out)
             }
-            Breach::OneWriter { holder, held } => {
-                self.put_holding(holder, held, f)?;
-                f.write_str(", and has to be probed first")
-            }
-            Breach::DataAsked { held } => {
-                self.put_holding(usize::from(self.entry.hart), held, f)?;
-                f.write_str(", and only a hart that holds Trunk has data to send")
-            }
-            Breach::DataKept { brought: _ } => match self.cause {
-                Some(place) => write!(f, "its bytes aren't those that {place} brought"),
-                None => f.write_str(
-                    "its bytes aren't those of memory at the start, which I lines tell (zeros where none does)",
-                ),
-            },
+            Breach::OneWriter { holder, held } => put_holding(
+                holder,
+                held,
+                self.cause,
+                ", and has to be probed first",
+                out,
+            ),
+            Breach::DataAsked { held } => put_holding(
+                hart,
+                held,
+                self.cause,
+                ", and only a hart that holds Trunk has data to send",
+                out,
+            ),
+            Breach::DataKept { brought: _ } => put_brought(self.cause, out),
         }
-    }
-
-    fn put_holding<W: fmt::Write>(
-        &self,
-        hart: usize,
-        held: Option<Held>,
-        f: &mut fmt::Formatter<W>,
-    ) -> fmt::Result {
-        let perm = perm_name(perm_in(held));
-        write!(f, "hart {hart} holds {perm} of this line")?;
-        match self.cause {
-            Some(place) => write!(f, " by {place}"),
-            None => Ok(()),
-        }
-    }
-
-    // By which change a Probe is answered.
-    fn put_answer<W: fmt::Write>(
-        &self,
-        perm: Perm,
-        probe: Option<Probed>,
-        f: &mut fmt::Formatter<W>,
-    ) -> fmt::Result {
-        let (Some(probe), Some(place)) = (probe, self.probe) else {
-            return Ok(());
-        };
-        let (_, change) = shrink(perm, probe.cap);
-        let asked = cap_name(probe.cap);
-        let answer = change_name(change);
-        write!(f, ", so the Probe{asked} of {place} is answered by{answer}")
     }
 }
 
-impl Display for Contradiction<'_> {
-    fn fmt<W: fmt::Write>(&self, f: &mut fmt::Formatter<W>) -> fmt::Result {
-        write!(f, "{}: ", Routed(self.entry))?;
-        self.put_cause(f)
+// What a hart holds and behind which message, and what that asks of the entry.
+fn put_holding<W: Write>(
+    hart: usize,
+    held: Option<Held>,
+    cause: Option<Place<'_>>,
+    behind: &str,
+    out: &mut W,
+) -> io::Result<()>
+    ensures { Writes (W.contents out.old) (W.contents out.new) (holding_text hart (perm_in held) cause.entry ++ behind.now) result }
+{
+    let perm = perm_in(held);
+    put_held(hart, perm, cause, out)?;
+    put_text(behind, out)
+}
+
+fn put_text<W: Write>(text: &str, out: &mut W) -> io::Result<()>
+    ensures { Writes (W.contents out.old) (W.contents out.new) text.now result }
+{
+    put(out, text.as_bytes())
+}
+
+// What a hart holds and behind which message, and by which change it answers a Probe.
+fn put_obeying<W: Write>(
+    hart: usize,
+    held: Option<Held>,
+    cause: Option<Place<'_>>,
+    probe: Option<Probed>,
+    place: Option<Place<'_>>,
+    out: &mut W,
+) -> io::Result<()>
+    ensures { Writes (W.contents out.old) (W.contents out.new) (holding_text hart (perm_in held) cause.entry ++ answered_text (perm_in held) probe place.entry) result }
+{
+    let perm = perm_in(held);
+    put_held(hart, perm, cause, out)?;
+    put_answer(perm, probe, place, out)
+}
+
+fn put_held<W: Write>(
+    hart: usize,
+    perm: Perm,
+    cause: Option<Place<'_>>,
+    out: &mut W,
+) -> io::Result<()>
+    ensures { Writes (W.contents out.old) (W.contents out.new) (holding_text hart perm cause.entry) result }
+{
+    put_perm(hart, perm, out)?;
+    put_by(cause, out)
+}
+
+fn put_perm<W: Write>(hart: usize, perm: Perm, out: &mut W) -> io::Result<()>
+    ensures { Writes (W.contents out.old) (W.contents out.new) (codes "hart " ++ (decimal hart ++ (codes " holds " ++ (perm_text perm ++ codes " of this line")))) result }
+{
+    put_pieces(
+        out,
+        &[
+            Text(b"hart "),
+            Number(hart as u64),
+            Text(b" holds "),
+            Text(perm_name(perm).as_bytes()),
+            Text(b" of this line"),
+        ],
+    )
+}
+
+// By which change a Probe is answered.
+fn put_answer<W: Write>(
+    perm: Perm,
+    probe: Option<Probed>,
+    place: Option<Place<'_>>,
+    out: &mut W,
+) -> io::Result<()>
+    ensures { Writes (W.contents out.old) (W.contents out.new) (answered_text perm probe place.entry) result }
+{
+    match (probe, place) {
+        (Some(probe), Some(place)) => put_answered(perm, probe, place, out),
+        _ => Ok(()),
     }
+}
+
+fn put_answered<W: Write>(
+    perm: Perm,
+    probe: Probed,
+    place: Place<'_>,
+    out: &mut W,
+) -> io::Result<()>
+    ensures { Writes (W.contents out.old) (W.contents out.new) (answered_text perm (Some probe) (Some place.entry)) result }
+{
+    put_probe(probe.cap, out)?;
+    place.put(out)?;
+    put_change(perm, probe.cap, out)
+}
+
+fn put_probe<W: Write>(cap: Cap, out: &mut W) -> io::Result<()>
+    ensures { Writes (W.contents out.old) (W.contents out.new) (codes ", so the Probe" ++ (words.cap cap ++ codes " of ")) result }
+{
+    put_pieces(
+        out,
+        &[
+            Text(b", so the Probe"),
+            Text(cap_name(cap).as_bytes()),
+            Text(b" of "),
+        ],
+    )
+}
+
+fn put_change<W: Write>(perm: Perm, cap: Cap, out: &mut W) -> io::Result<()>
+    ensures { Writes (W.contents out.old) (W.contents out.new) (codes " is answered by" ++ words.change (shrunk_by perm cap).1) result }
+{
+    let (_, change) = shrink(perm, cap);
+    put_pieces(
+        out,
+        &[
+            Text(b" is answered by"),
+            Text(change_name(change).as_bytes()),
+        ],
+    )
+}
+
+// Behind which message a hart holds what it does.
+fn put_by<W: Write>(cause: Option<Place<'_>>, out: &mut W) -> io::Result<()>
+    ensures { Writes (W.contents out.old) (W.contents out.new) (by_text cause.entry) result }
+{
+    match cause {
+        Some(place) => put_behind(place, out),
+        None => Ok(()),
+    }
+}
+
+fn put_behind<W: Write>(place: Place<'_>, out: &mut W) -> io::Result<()>
+    ensures { Writes (W.contents out.old) (W.contents out.new) (by_text (Some place.entry)) result }
+{
+    put(out, b" by ")?;
+    place.put(out)
+}
+
+// Which bytes a message should carry.
+fn put_brought<W: Write>(cause: Option<Place<'_>>, out: &mut W) -> io::Result<()>
+    ensures { Writes (W.contents out.old) (W.contents out.new) (brought_text cause.entry) result }
+{
+    match cause {
+        Some(place) => put_bringing(place, out),
+        None => put(
+            out,
+            b"its bytes aren't those of memory at the start, which I lines tell (zeros where none does)",
+        ),
+    }
+}
+
+fn put_bringing<W: Write>(place: Place<'_>, out: &mut W) -> io::Result<()>
+    ensures { Writes (W.contents out.old) (W.contents out.new) (brought_text (Some place.entry)) result }
+{
+    put(out, b"its bytes aren't those that ")?;
+    place.put(out)?;
+    put(out, b" brought")
 }
 
 // What a message of a hart that holds this has to begin with.
-fn put_beginning<W: fmt::Write>(body: &Body, held: Perm, f: &mut fmt::Formatter<W>) -> fmt::Result {
+fn beginning(body: &Body, held: Perm) -> &'static str
+    ensures { result.now ≡ beginning_text body.now held }
+{
     match (body, held) {
-        (Body::AcquireBlock(_), Perm::Trunk) => f.write_str(", and there is no more to ask for"),
-        (_, Perm::Trunk) => f.write_str(", so it has to begin with T"),
-        (_, Perm::Branch) => f.write_str(", so it has to begin with B"),
-        (_, Perm::Nothing) => f.write_str(", so it has to begin with N"),
+        (Body::AcquireBlock(_), Perm::Trunk) => ", and there is no more to ask for",
+        (_, Perm::Trunk) => ", so it has to begin with T",
+        (_, Perm::Branch) => ", so it has to begin with B",
+        (_, Perm::Nothing) => ", so it has to begin with N",
     }
 }
 
-fn perm_in(held: Option<Held>) -> Perm {
-    held.map_or(Perm::Nothing, |held| held.perm)
+fn perm_in(held: Option<Held>) -> Perm
+    ensures { result ≡ perm_in held }
+{
+    match held {
+        Some(held) => held.perm,
+        None => Perm::Nothing,
+    }
 }
 
-fn perm_name(perm: Perm) -> &'static str {
+fn perm_name(perm: Perm) -> &'static str
+    ensures { result.now ≡ perm_text perm }
+{
     match perm {
         Perm::Nothing => "nothing",
         Perm::Branch => "Branch",

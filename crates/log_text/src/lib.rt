@@ -10,6 +10,7 @@ mod objection;
 mod place;
 mod spelling;
 mod unanswered;
+mod unwritten;
 mod verdict;
 mod waiting;
 
@@ -21,4 +22,5 @@ pub use names::{misnamed_line, name_of_message, without_names};
 pub use objection::Objection;
 pub use place::{LogText, Place, line_of_message};
 pub use unanswered::Unanswered;
+pub use unwritten::UnwrittenByte;
 pub use verdict::{put_told, put_verdict};

@@ -1,11 +1,16 @@
 //! What stands against a message, in words.
+ghost use Rattle.std.specs.Prelude.{◌≡◌, ◌++◌, Some, codes};
 ghost use Rattle.log_text.specs.Objections.{IsOwnTo, ObjectsTo};
+ghost use Rattle.log_text.specs.Words.{awaited_text, data_text, front_text, objection_text, own_text, permission_text, release_text, rule_text};
+ghost use Rattle.text_fields.specs.Writing.{Writes};
+ghost use Rattle.trace_text.specs.MessageParts.{heading};
 
-use crate::spelling::{Routed, Spelt, is_spelt_alike};
+use crate::spelling::{is_spelt_alike, put_heading, put_lead};
 use crate::waiting::{awaits_release_ack, front_of};
 use lawful_log::{Awaited, LogRule, Profile, first_awaited};
-use std::fmt;
-use std::fmt::Display;
+use std::io::{self, Write};
+use text_fields::Piece::{Number, Text};
+use text_fields::{put, put_pieces};
 use tl_types::Msg;
 use trace_recorder::Logged;
 
@@ -52,48 +57,114 @@ impl Objection {
         })
     }
 
-    // What stood against the entry.
-    fn put_cause<W: fmt::Write>(&self, f: &mut fmt::Formatter<W>) -> fmt::Result {
-        let cause = match self.rule {
-            LogRule::InOrder => return put_front(self.front, self.entry.message, f),
-            LogRule::Question => "no question that was taken is left for it to answer",
-            LogRule::Permission => match self.profile {
-                Profile::Machine => "the Acquire that it answers asked for another permission",
-                Profile::TileLink => "the Acquire that it answers asked for more",
-            },
-            LogRule::Data => match self.profile {
-                Profile::Machine =>
-                    "a Grant is without data exactly where its Acquire was BtoT and the copy wasn't lost meanwhile",
-                Profile::TileLink =>
-                    "a Grant is without data only where its Acquire was BtoT and the copy wasn't lost meanwhile",
-            },
-            LogRule::AcquireOnce =>
-                "the Grant of the hart's earlier Acquire of this line wasn't taken yet",
-            LogRule::ProbeOnce =>
-                "the ProbeAck of the earlier Probe of this line to the hart wasn't taken yet",
-            LogRule::GrantAlone => match self.awaited {
-                Some(awaited) => return write!(f, "{awaited} of this line wasn't taken yet"),
-                None => "a GrantAck or a ProbeAck of this line wasn't taken yet",
-            },
-            LogRule::ReleaseAlone if self.awaits_release_ack =>
-                "the ReleaseAck of the hart's earlier Release of this line wasn't taken yet",
-            LogRule::ReleaseAlone =>
-                "the Grant of the hart's Acquire of this line wasn't taken yet",
-        };
-        f.write_str(cause)
+    /// Writes it. After the writer's fault a beginning of it went out.
+    pub fn put<W: Write>(&self, out: &mut W) -> io::Result<()>
+        ensures { Writes (W.contents out.old) (W.contents out.new) (objection_text self.now) result }
+    {
+        put_lead(&self.entry, out)?;
+        self.put_cause(out)
+    }
+
+    // What stood against the entry, and whether this machine alone asks it.
+    fn put_cause<W: Write>(&self, out: &mut W) -> io::Result<()>
+        ensures { Writes (W.contents out.old) (W.contents out.new) (rule_text self.now.rule self.now ++ own_text self.now.own) result }
+    {
+        self.put_rule(out)?;
+        put_own(self.own, out)
+    }
+
+    fn put_rule<W: Write>(&self, out: &mut W) -> io::Result<()>
+        ensures { Writes (W.contents out.old) (W.contents out.new) (rule_text self.now.rule self.now) result }
+    {
+        match self.rule {
+            LogRule::InOrder => put_front(self.front, &self.entry.message, out),
+            LogRule::Question => put(out, b"no question that was taken is left for it to answer"),
+            LogRule::Permission => put(out, permission_cause(self.profile).as_bytes()),
+            LogRule::Data => put(out, data_cause(self.profile).as_bytes()),
+            LogRule::AcquireOnce => put(
+                out,
+                b"the Grant of the hart's earlier Acquire of this line wasn't taken yet",
+            ),
+            LogRule::ProbeOnce => put(
+                out,
+                b"the ProbeAck of the earlier Probe of this line to the hart wasn't taken yet",
+            ),
+            LogRule::GrantAlone => put_awaited(self.awaited, out),
+            LogRule::ReleaseAlone => put(out, release_cause(self.awaits_release_ack).as_bytes()),
+        }
     }
 }
 
-impl Display for Objection {
-    fn fmt<W: fmt::Write>(&self, f: &mut fmt::Formatter<W>) -> fmt::Result {
-        write!(f, "{}: ", Routed(self.entry))?;
-        self.put_cause(f)?;
-        if self.own {
-            f.write_str(" (a rule of this machine's own: --profile tilelink allows it)")
-        } else {
-            Ok(())
-        }
+// Whether this machine alone asks it.
+fn put_own<W: Write>(own: bool, out: &mut W) -> io::Result<()>
+    ensures { Writes (W.contents out.old) (W.contents out.new) (own_text own) result }
+{
+    if own {
+        return put(
+            out,
+            b" (a rule of this machine's own: --profile tilelink allows it)",
+        );
     }
+    Ok(())
+}
+
+fn permission_cause(profile: Profile) -> &'static str
+    ensures { result.now ≡ permission_text profile }
+{
+    match profile {
+        Profile::Machine => "the Acquire that it answers asked for another permission",
+        Profile::TileLink => "the Acquire that it answers asked for more",
+    }
+}
+
+fn data_cause(profile: Profile) -> &'static str
+    ensures { result.now ≡ data_text profile }
+{
+    match profile {
+        Profile::Machine =>
+            "a Grant is without data exactly where its Acquire was BtoT and the copy wasn't lost meanwhile",
+        Profile::TileLink =>
+            "a Grant is without data only where its Acquire was BtoT and the copy wasn't lost meanwhile",
+    }
+}
+
+fn release_cause(awaits_release_ack: bool) -> &'static str
+    ensures { result.now ≡ release_text awaits_release_ack }
+{
+    if awaits_release_ack {
+        "the ReleaseAck of the hart's earlier Release of this line wasn't taken yet"
+    } else {
+        "the Grant of the hart's Acquire of this line wasn't taken yet"
+    }
+}
+
+// Which answer the line waits for.
+fn put_awaited<W: Write>(awaited: Option<Awaited>, out: &mut W) -> io::Result<()>
+    ensures { Writes (W.contents out.old) (W.contents out.new) (awaited_text awaited) result }
+{
+    match awaited {
+        None => put(
+            out,
+            b"a GrantAck or a ProbeAck of this line wasn't taken yet",
+        ),
+        Some(awaited) => put_owed(awaited, out),
+    }
+}
+
+// Which hart owes it.
+fn put_owed<W: Write>(awaited: Awaited, out: &mut W) -> io::Result<()>
+    ensures { Writes (W.contents out.old) (W.contents out.new) (awaited_text (Some awaited)) result }
+{
+    put_pieces(
+        out,
+        &[
+            Text(b"hart "),
+            Number(u64::from(awaited.hart)),
+            Text(b"'s "),
+            Text(awaited.answer.name().as_bytes()),
+            Text(b" of this line wasn't taken yet"),
+        ],
+    )
 }
 
 // Whether this machine alone asks this of an entry that breaks the rule as the profile asks it.
@@ -107,16 +178,30 @@ fn is_own(profile: Profile, rule: LogRule, entry: &Logged) -> bool
 }
 
 // What is in front of the message's queue in its place.
-fn put_front<W: fmt::Write>(
-    front: Option<Msg>,
-    message: Msg,
-    f: &mut fmt::Formatter<W>,
-) -> fmt::Result {
+fn put_front<W: Write>(front: Option<Msg>, message: &Msg, out: &mut W) -> io::Result<()>
+    ensures { Writes (W.contents out.old) (W.contents out.new) (front_text front message.now) result }
+{
     match front {
-        None => f.write_str("its queue is empty"),
-        Some(front) if is_spelt_alike(&front, &message) => {
-            f.write_str("the message in front of its queue has other bytes")
-        }
-        Some(front) => write!(f, "{} is in front of its queue", Spelt(front)),
+        None => put(out, b"its queue is empty"),
+        Some(front) => put_other(&front, message, out),
     }
+}
+
+// How the message in front differs from this one.
+fn put_other<W: Write>(front: &Msg, message: &Msg, out: &mut W) -> io::Result<()>
+    ensures { Writes (W.contents out.old) (W.contents out.new) (front_text (Some front.now) message.now) result }
+{
+    let alike = is_spelt_alike(front, message);
+    if alike {
+        put(out, b"the message in front of its queue has other bytes")
+    } else {
+        put_foremost(front, out)
+    }
+}
+
+fn put_foremost<W: Write>(front: &Msg, out: &mut W) -> io::Result<()>
+    ensures { Writes (W.contents out.old) (W.contents out.new) (heading front.now ++ codes " is in front of its queue") result }
+{
+    put_heading(front, out)?;
+    put(out, b" is in front of its queue")
 }

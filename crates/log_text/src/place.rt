@@ -1,12 +1,16 @@
 //! Where in a text a message stands.
-ghost use Rattle.std.specs.Prelude.{◌≡◌, true};
+ghost use Rattle.std.specs.Prelude.{◌≡◌, ◌++◌, Some, codes, decimal, true};
+ghost use Rattle.std.specs.Char.Escape.{escape_ascii};
 ghost use Rattle.log_text.specs.Places.{IsPlace, message_line};
+ghost use Rattle.log_text.specs.Words.{name_text, place_text};
+ghost use Rattle.std.specs.List.{flat_map};
+ghost use Rattle.text_fields.specs.Writing.{Writes};
 
 use crate::meant::source_line;
 use crate::names::name_of_message;
-use std::fmt;
-use std::fmt::Display;
-use text_fields::after;
+use std::io::{self, Write};
+use text_fields::Piece::{Number, Text};
+use text_fields::{after, put, put_pieces};
 
 /// A log's text, and what it stands for.
 #[derive(Clone, Copy)]
@@ -38,15 +42,50 @@ impl<'a> Place<'a> {
             name: name_of_message(text.meant, index),
         })
     }
-}
 
-impl Display for Place<'_> {
-    fn fmt<W: fmt::Write>(&self, f: &mut fmt::Formatter<W>) -> fmt::Result {
+    /// Writes it. After the writer's fault a beginning of it went out.
+    pub fn put<W: Write>(&self, out: &mut W) -> io::Result<()>
+        ensures { Writes (W.contents out.old) (W.contents out.new) (place_text self.now) result }
+    {
+        put_line(self.line, out)?;
         match self.name {
-            None => write!(f, "line {}", self.line),
-            Some(name) => write!(f, "line {} ({})", self.line, name.escape_ascii()),
+            Some(name) => put_name(name, out),
+            None => Ok(()),
         }
     }
+}
+
+fn put_line<W: Write>(line: usize, out: &mut W) -> io::Result<()>
+    ensures { Writes (W.contents out.old) (W.contents out.new) (codes "line " ++ decimal line) result }
+{
+    put_pieces(out, &[Text(b"line "), Number(line as u64)])
+}
+
+/// Writes a name in brackets, behind a space.
+fn put_name<W: Write>(name: &[u8], out: &mut W) -> io::Result<()>
+    ensures { Writes (W.contents out.old) (W.contents out.new) (name_text (Some name.now)) result }
+{
+    put(out, b" (")?;
+    put_escaped(name, out)?;
+    put(out, b")")
+}
+
+fn put_escaped<W: Write>(name: &[u8], out: &mut W) -> io::Result<()>
+    ensures { Writes (W.contents out.old) (W.contents out.new) (flat_map escape_ascii name.now) result }
+{
+    for byte in name {
+        put_byte(*byte, out)?;
+    }
+    Ok(())
+}
+
+fn put_byte<W: Write>(byte: u8, out: &mut W) -> io::Result<()>
+    ensures { Writes (W.contents out.old) (W.contents out.new) (escape_ascii byte) result }
+{
+    for written in byte.escape_ascii() {
+        put(out, &[written])?;
+    }
+    Ok(())
 }
 
 /// The line, counted from 1, on which the message of this index, counted from 0, stands in a trace's text.

@@ -1,81 +1,79 @@
 //! Messages as a trace spells them, without the bytes that they carry.
+ghost use Rattle.std.specs.Prelude.{◌≡◌, ◌++◌, codes, decimal};
+ghost use Rattle.log_text.specs.Meant.{is_word};
+ghost use Rattle.log_text.specs.Words.{routed_text, way_text};
+ghost use Rattle.text_fields.specs.Writing.{Writes};
+ghost use Rattle.trace_text.specs.MessageParts.{heading};
+ghost use Rattle.trace_text.specs.Words as words;
 
-use std::fmt;
-use std::fmt::Display;
-use tl_types::{Body, Cap, Change, Channel, Grow, Msg};
+use std::io::{self, Write};
+use text_fields::Piece::{Number, Text};
+use text_fields::{Page, put, put_pieces};
+use tl_types::{Cap, Change, Channel, Msg};
 use trace_recorder::Logged;
+use trace_text::spell_message;
 
-/// A message, and of which hart's cache it comes or goes to, as `GrantData 0x80000100 toT to hart 1`.
-#[derive(Drop)]
-pub(crate) struct Routed(pub(crate) Logged);
-
-impl Display for Routed {
-    fn fmt<W: fmt::Write>(&self, f: &mut fmt::Formatter<W>) -> fmt::Result {
-        let hart = self.0.hart;
-        let message = Spelt(self.0.message);
-        match self.0.message.channel() {
-            Channel::A | Channel::C | Channel::E => write!(f, "{message} from hart {hart}"),
-            Channel::B | Channel::D => write!(f, "{message} to hart {hart}"),
-        }
-    }
+/// Writes a message, and of which hart's cache it comes or goes to, as `GrantData 0x80000100 toT to hart 1`.
+pub(crate) fn put_routed<W: Write>(entry: &Logged, out: &mut W) -> io::Result<()>
+    ensures { Writes (W.contents out.old) (W.contents out.new) (routed_text entry.now) result }
+{
+    put_heading(&entry.message, out)?;
+    put_hart(entry.message.channel(), entry.hart, out)
 }
 
-/// A message, as `GrantData 0x80000100 toT`.
-#[derive(Drop)]
-pub(crate) struct Spelt(pub(crate) Msg);
+/// The same, and a colon behind it.
+pub(crate) fn put_lead<W: Write>(entry: &Logged, out: &mut W) -> io::Result<()>
+    ensures { Writes (W.contents out.old) (W.contents out.new) (routed_text entry.now ++ codes ": ") result }
+{
+    put_routed(entry, out)?;
+    put(out, b": ")
+}
 
-impl Display for Spelt {
-    fn fmt<W: fmt::Write>(&self, f: &mut fmt::Formatter<W>) -> fmt::Result {
-        let name = name(&self.0.body);
-        let permissions = permissions(&self.0.body);
-        write!(f, "{name} {:#010x}{permissions}", self.0.line)
-    }
+/// Writes a message, as `GrantData 0x80000100 toT`.
+pub(crate) fn put_heading<W: Write>(message: &Msg, out: &mut W) -> io::Result<()>
+    ensures { Writes (W.contents out.old) (W.contents out.new) (heading message.now) result }
+{
+    let page = spelt(message);
+    put(out, page.as_slice())
+}
+
+/// Writes of which hart's cache a message on this channel comes or goes to.
+fn put_hart<W: Write>(channel: Channel, hart: u8, out: &mut W) -> io::Result<()>
+    ensures { Writes (W.contents out.old) (W.contents out.new) (way_text channel ++ decimal hart) result }
+{
+    put_pieces(
+        out,
+        &[Text(way(channel).as_bytes()), Number(u64::from(hart))],
+    )
+}
+
+fn spelt(message: &Msg) -> Page
+    ensures { result ≡ heading message.now }
+{
+    let mut page = Page::new();
+    spell_message(&mut page, message);
+    page
 }
 
 /// Whether two messages are the same but for the bytes that they carry.
-pub(crate) fn is_spelt_alike(first: &Msg, second: &Msg) -> bool {
-    first.line == second.line
-        && name(&first.body) == name(&second.body)
-        && permissions(&first.body) == permissions(&second.body)
+pub(crate) fn is_spelt_alike(first: &Msg, second: &Msg) -> bool
+    ensures { result ≡ is_word (heading first.now) (heading second.now) }
+{
+    spelt(first).as_slice() == spelt(second).as_slice()
 }
 
-fn name(body: &Body) -> &'static str {
-    match body {
-        Body::AcquireBlock(_) => "AcquireBlock",
-        Body::ProbeBlock(_) => "ProbeBlock",
-        Body::ProbeAck(_) => "ProbeAck",
-        Body::ProbeAckData { .. } => "ProbeAckData",
-        Body::Release(_) => "Release",
-        Body::ReleaseData { .. } => "ReleaseData",
-        Body::Grant(_) => "Grant",
-        Body::GrantData { .. } => "GrantData",
-        Body::ReleaseAck => "ReleaseAck",
-        Body::GrantAck => "GrantAck",
+fn way(channel: Channel) -> &'static str
+    ensures { result.now ≡ way_text channel }
+{
+    match channel {
+        Channel::A | Channel::C | Channel::E => " from hart ",
+        Channel::B | Channel::D => " to hart ",
     }
 }
 
-/// The permissions that a message names, behind a space, if it names some.
-fn permissions(body: &Body) -> &'static str {
-    match body {
-        Body::AcquireBlock(grow) => grow_name(*grow),
-        Body::ProbeBlock(cap) | Body::Grant(cap) | Body::GrantData { cap, .. } => cap_name(*cap),
-        Body::ProbeAck(change)
-        | Body::ProbeAckData { change, .. }
-        | Body::Release(change)
-        | Body::ReleaseData { change, .. } => change_name(*change),
-        Body::ReleaseAck | Body::GrantAck => "",
-    }
-}
-
-fn grow_name(grow: Grow) -> &'static str {
-    match grow {
-        Grow::NtoB => " NtoB",
-        Grow::NtoT => " NtoT",
-        Grow::BtoT => " BtoT",
-    }
-}
-
-pub(crate) fn cap_name(cap: Cap) -> &'static str {
+pub(crate) fn cap_name(cap: Cap) -> &'static str
+    ensures { result.now ≡ words.cap cap }
+{
     match cap {
         Cap::ToT => " toT",
         Cap::ToB => " toB",
@@ -83,7 +81,9 @@ pub(crate) fn cap_name(cap: Cap) -> &'static str {
     }
 }
 
-pub(crate) fn change_name(change: Change) -> &'static str {
+pub(crate) fn change_name(change: Change) -> &'static str
+    ensures { result.now ≡ words.change change }
+{
     match change {
         Change::TtoB => " TtoB",
         Change::TtoN => " TtoN",

@@ -1,10 +1,13 @@
 //! A question that no answer follows, in words.
-ghost use Rattle.std.specs.Prelude.{◌≡◌, option_map, slice_get};
+ghost use Rattle.std.specs.Prelude.{◌≡◌, ◌++◌, codes, option_map, slice_get};
+ghost use Rattle.log_text.specs.Words.{answer_text, unanswered_text};
 ghost use Rattle.log_text.specs.declared.unanswered.Unanswered.{Unanswered as UnansweredValue};
+ghost use Rattle.text_fields.specs.Writing.{Writes};
 
-use crate::spelling::Routed;
-use std::fmt;
-use std::fmt::Display;
+use crate::spelling::put_routed;
+use std::io::{self, Write};
+use text_fields::Piece::Text;
+use text_fields::put_pieces;
 use tl_types::Body;
 use trace_recorder::Logged;
 
@@ -25,20 +28,33 @@ impl Unanswered {
             None => None,
         }
     }
-}
 
-impl Display for Unanswered {
-    fn fmt<W: fmt::Write>(&self, f: &mut fmt::Formatter<W>) -> fmt::Result {
-        let answer = answer_to(&self.entry.message.body);
-        write!(
-            f,
-            "{}: its {answer} wasn't taken by the end",
-            Routed(self.entry)
-        )
+    /// Writes it. After the writer's fault a beginning of it went out.
+    pub fn put<W: Write>(&self, out: &mut W) -> io::Result<()>
+        ensures { Writes (W.contents out.old) (W.contents out.new) (unanswered_text self.now) result }
+    {
+        put_routed(&self.entry, out)?;
+        put_missing(&self.entry.message.body, out)
     }
 }
 
-fn answer_to(body: &Body) -> &'static str {
+/// Writes which answer wasn't taken.
+fn put_missing<W: Write>(body: &Body, out: &mut W) -> io::Result<()>
+    ensures { Writes (W.contents out.old) (W.contents out.new) (codes ": its " ++ (answer_text body.now ++ codes " wasn't taken by the end")) result }
+{
+    put_pieces(
+        out,
+        &[
+            Text(b": its "),
+            Text(answer_to(body).as_bytes()),
+            Text(b" wasn't taken by the end"),
+        ],
+    )
+}
+
+fn answer_to(body: &Body) -> &'static str
+    ensures { result.now ≡ answer_text body.now }
+{
     match body {
         Body::AcquireBlock(_) => "Grant",
         Body::ProbeBlock(_) => "ProbeAck",

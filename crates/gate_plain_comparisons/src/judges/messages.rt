@@ -101,7 +101,7 @@ impl Tally {
         match breach {
             MessageBreach::Unlawful(rule) => self.count_unlawful(*rule),
             MessageBreach::Incoherent(breach) => self.count_incoherent(breach.rule()),
-            MessageBreach::Unanswered => {}
+            MessageBreach::Unanswered | MessageBreach::Unwritten { address: _ } => {}
         }
     }
 

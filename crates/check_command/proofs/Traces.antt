@@ -1,0 +1,31 @@
+-- The verdict on a trace, by that on its messages and by the bytes that harts send.
+use Rattle.std.proofs.Common.{◌≡◌, ◌∙◌, Bool, false, None, Option, Some, ap, refl, subst, sym, true}
+use Rattle.std.specs.Prelude.{if◌then◌else◌}
+use Rattle.check_command.specs.Messages.{IsTraceVerdict, are_lawful_by, memory_told, with_unwritten}
+use Rattle.log_text.specs.Laws.{IsVerdict}
+use Rattle.log_text.specs.MessageBreach.TheVariants.{Unwritten}
+use Rattle.log_text.specs.MessageVerdict.{MessageVerdict}
+use Rattle.log_text.specs.MessageVerdict.TheVariants.{Unlawful}
+use Rattle.log_text.specs.Profile.{Profile}
+use Rattle.trace_recorder.specs.History.{History}
+use Rattle.written_lines.specs.Written.{unwritten_in}
+use Rattle.written_lines.specs.declared.checking.Unwritten.{Unwritten as FoundByte}
+
+module _ (ended : Bool) (profile : Profile) (t : History) (verdict : MessageVerdict) where
+  abbrev Judged : Type 0
+  Judged = IsVerdict ended profile (memory_told t.image) t.log verdict
+
+  -- whatever is found, a message that breaks a rule stays the verdict
+  kept : are_lawful_by verdict ≡ false → (found : Option FoundByte) → verdict ≡ with_unwritten found verdict
+  kept broken None = refl
+  kept broken (Some found) = ap (λ (b : Bool). if b then Unlawful (Unwritten found.address) found.index else verdict) (sym broken)
+
+  pub stays : Judged → are_lawful_by verdict ≡ false → IsTraceVerdict ended profile t verdict
+  stays judged broken = record { by_messages = verdict; judged = judged; told = kept broken (unwritten_in t) }
+
+  pub told_with : (told : MessageVerdict) (found : Option FoundByte) → Judged → found ≡ unwritten_in t → told ≡ with_unwritten found verdict → IsTraceVerdict ended profile t told
+  told_with told found judged is with_found = record { by_messages = verdict; judged = judged; told = with_found ∙ ap (λ f. with_unwritten f verdict) is }
+
+-- where there is none, what is found is told
+pub told_first : (verdict : MessageVerdict) (found : Option FoundByte) (byte : FoundByte) → found ≡ Some byte → are_lawful_by verdict ≡ true → Unlawful (Unwritten byte.address) byte.index ≡ with_unwritten found verdict
+told_first verdict found byte is lawful = subst (λ (f : Option FoundByte). Unlawful (Unwritten byte.address) byte.index ≡ with_unwritten f verdict) (sym is) (ap (λ (b : Bool). if b then Unlawful (Unwritten byte.address) byte.index else verdict) (sym lawful))
