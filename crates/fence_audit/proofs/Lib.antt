@@ -1,3 +1,4 @@
 mod Ends
 mod Found
+mod Made
 mod Told

@@ -21,10 +21,12 @@ use Rattle.fence_audit.specs.declared.searches.World.{World}
 use Rattle.fence_audit.specs.declared.searches.World.TheVariants.{Machine, Model}
 use Rattle.machine_types.specs.declared.config.Config.{Config}
 use Rattle.state_search.specs.declared.findings.Extent.{Extent}
+use Rattle.state_search.specs.declared.findings.Extent.TheVariants as extent
 use Rattle.state_search.specs.declared.findings.Extent.TheVariants.{Complete}
 use Rattle.architecture_outcomes.specs.Complete.{TellsEachAllowed}
 use Rattle.architecture_outcomes.specs.Reach.{Reach}
 use Rattle.architecture_outcomes.specs.LeftOut.{keeps_limit}
+use Rattle.architecture_outcomes.specs.TheVariants as reach
 use Rattle.architecture_outcomes.specs.TheVariants.{Whole}
 
 -- ---- a search
@@ -64,6 +66,15 @@ IsSearchIn Machine image config addresses window limit found = IsMachineSearchOf
 -- neither the search under the model nor the machine's own met a bound
 abbrev pub is_whole : Architecture → Bool
 is_whole found = whole_by found.reach found.machine
+
+abbrev pub lacked_by : Reach → Extent → Bool
+lacked_by reach.OutOfMemory _ = true
+lacked_by _ extent.OutOfMemory = true
+lacked_by _ _ = false
+
+-- one of the two ended for want of memory
+abbrev pub lacked_memory : Architecture → Bool
+lacked_memory found = lacked_by found.reach found.machine
 
 -- ---- beside another
 

@@ -1,7 +1,7 @@
 -- The lines in which is told what a program lacks that has outcomes that aren't allowed.
 use Rattle.std.specs.Prelude.{ℕ, ◌+◌, ◌==◌, ◌∷◌, ◌++◌, ◌||◌, [], Bool, List, None, Option, Some, codes, false, if◌then◌else◌, length, not, slice_get}
 use Rattle.std.specs.List.{list_all}
-use Rattle.architecture_outcomes.specs.Reach.{Reach}
+use Rattle.architecture_outcomes.specs.declared.architecture.Architecture.{Architecture}
 use Rattle.elf_symbols.specs.Lookups.{nearest}
 use Rattle.elf_symbols.specs.Named.{Named}
 use Rattle.exploration_text.specs.declared.wording.WordName.{WordName}
@@ -65,14 +65,14 @@ changes_text symbols minimal last (own ∷ rest) = change_text symbols minimal l
 
 -- ---- what comes of all that the program may order
 
-abbrev pub open_text : Reach → (window : ℕ) → List ℕ
-open_text reach window = codes "undecided, all that may order" ++ (bound_text reach window ++ codes "\n")
+abbrev pub open_text : Architecture → List ℕ
+open_text found = codes "undecided, all that may order" ++ (bound_text found ++ codes "\n")
 
 abbrev pub answer_text : List WordName → List Named → Missing → Search → Answer → List ℕ
 answer_text names symbols m search answer.Same = changes_text symbols (is_minimal m) m.last.items m.own.items
 answer_text names symbols m search (answer.Other place) = codes "not enough, all that may order:" ++ (end_at names (slice_get search.found.outcomes.items place) ++ codes "\n")
 answer_text names symbols m search (answer.Fewer place) = []
-answer_text names symbols m search answer.Bounded = open_text search.found.reach search.found.window
+answer_text names symbols m search answer.Bounded = open_text search.found
 
 abbrev pub found_text : List WordName → List Named → Missing → Option Search → List ℕ
 found_text names symbols m None = []

@@ -3,6 +3,7 @@ pub mod Answers
 pub mod Auditing
 pub mod Lacking
 pub mod Searches
+pub mod SideBySide
 pub mod Text
 pub use Rattle.architecture_outcomes.specs.Words
 pub use Rattle.allowed_outcomes.specs.Allowing

@@ -2,13 +2,14 @@
 use Rattle.std.specs.Prelude.{ℕ, ◌+◌, ◌==◌, ◌∷◌, ◌++◌, ◌||◌, [], Bool, List, None, Option, Some, codes, decimal, false, if◌then◌else◌, length, not, slice_get, true}
 use Rattle.std.specs.List.{list_all, list_any}
 use Rattle.architecture_outcomes.specs.Outcomes.{end_of}
+use Rattle.architecture_outcomes.specs.declared.architecture.Architecture.{Architecture}
 use Rattle.architecture_outcomes.specs.declared.outcome.Outcome.{Outcome}
 use Rattle.assembly.specs.Assembly.{assembly}
 use Rattle.elf_symbols.specs.Lookups.{nearest}
 use Rattle.elf_symbols.specs.Named.{Named}
 use Rattle.exploration_text.specs.Words.{end_text}
 use Rattle.exploration_text.specs.declared.wording.WordName.{WordName}
-use Rattle.fence_audit.specs.Answers.{is_whole}
+use Rattle.fence_audit.specs.Answers.{is_whole, lacked_memory}
 use Rattle.fence_audit.specs.Searches.{answer_in, search_in}
 use Rattle.fence_audit.specs.declared.answers.Answer.{Answer}
 use Rattle.fence_audit.specs.declared.answers.Answer.TheVariants as answer
@@ -49,19 +50,23 @@ part_text Release = codes "    rl  "
 abbrev pub width_text : ℕ → List ℕ
 width_text window = codes ", windows over " ++ decimal window
 
--- what a search left out: how far the one under the model came, or else this machine's own
-abbrev pub bound_text : Reach → (window : ℕ) → List ℕ
-bound_text reach.Whole window = codes ", this machine's states"
-bound_text reach.Unjudged window = codes ", runs of over 4096 operations"
-bound_text reach.Unclosed window = codes ", what a last pass over the states found"
-bound_text (reach.WindowMet place) window = width_text window
-bound_text (reach.ValuesMet place) window = codes ", values of a load over 256"
-bound_text (reach.WaysMet place) window = codes ", ways of fetching on over 1000"
-bound_text (reach.CallMet place) window = codes ", calls by a loaded number"
-bound_text (reach.RowMet place) window = codes ", rows over 10000 instructions without an access"
-bound_text reach.LimitMet window = codes ", limit of states"
-bound_text (reach.Ended ending) window = codes ", ended"
-bound_text reach.OutOfMemory window = codes ", out of memory"
+-- how far the search under the model came, or else that the machine's own met its limit
+abbrev pub reach_text : Reach → (window : ℕ) → List ℕ
+reach_text reach.Whole window = codes ", this machine's states"
+reach_text reach.Unjudged window = codes ", runs of over 4096 operations"
+reach_text reach.Unclosed window = codes ", what a last pass over the states found"
+reach_text (reach.WindowMet place) window = width_text window
+reach_text (reach.ValuesMet place) window = codes ", values of a load over 256"
+reach_text (reach.WaysMet place) window = codes ", ways of fetching on over 1000"
+reach_text (reach.CallMet place) window = codes ", calls by a loaded number"
+reach_text (reach.RowMet place) window = codes ", rows over 10000 instructions without an access"
+reach_text reach.LimitMet window = codes ", limit of states"
+reach_text (reach.Ended ending) window = codes ", ended"
+reach_text reach.OutOfMemory window = codes ", out of memory"
+
+-- why a search isn't whole
+abbrev pub bound_text : Architecture → List ℕ
+bound_text found = if lacked_memory found then codes ", out of memory" else reach_text found.reach found.window
 
 -- the outcome at a place
 abbrev pub end_at : List WordName → Option Outcome → List ℕ
@@ -87,21 +92,26 @@ abbrev pub answer_text : List WordName → List Outcome → Search → Answer �
 answer_text names known search answer.Same = codes "not needed\n"
 answer_text names known search (answer.Other place) = codes "needed: without it" ++ (end_at names (slice_get search.found.outcomes.items place) ++ codes "\n")
 answer_text names known search (answer.Fewer place) = codes "needed: no longer without it" ++ (end_at names (slice_get known place) ++ codes "\n")
-answer_text names known search answer.Bounded = codes "undecided" ++ (bound_text search.found.reach search.found.window ++ codes "\n")
+answer_text names known search answer.Bounded = codes "undecided" ++ (bound_text search.found ++ codes "\n")
 
 abbrev pub told_text : List WordName → List Outcome → Option Search → List ℕ
 told_text names known None = codes "not asked\n"
 told_text names known (Some search) = answer_text names known search search.answer
 
 -- a FENCE in its place that is enough, or may be
-abbrev pub form_text : (w : ℕ) → Option Answer → List ℕ
-form_text w (Some answer.Same) = codes "    enough: " ++ (word_text (Some w) ++ codes "\n")
-form_text w (Some answer.Bounded) = codes "    undecided: " ++ (word_text (Some w) ++ codes "\n")
-form_text w _ = codes ""
+abbrev pub form_by : (w : ℕ) → Architecture → Answer → List ℕ
+form_by w found answer.Same = codes "    enough: " ++ (word_text (Some w) ++ codes "\n")
+form_by w found (answer.Other place) = codes ""
+form_by w found (answer.Fewer place) = codes ""
+form_by w found answer.Bounded = codes "    undecided: " ++ (word_text (Some w) ++ (bound_text found ++ codes "\n"))
+
+abbrev pub form_text : (w : ℕ) → Option Search → List ℕ
+form_text w None = codes ""
+form_text w (Some search) = form_by w search.found search.answer
 
 abbrev pub forms_text : List Search → List Patch → (address : ℕ) → List ℕ → List ℕ
 forms_text searches own address [] = []
-forms_text searches own address (w ∷ rest) = form_text w (answer_in searches (patches_with address w own)) ++ forms_text searches own address rest
+forms_text searches own address (w ∷ rest) = form_text w (search_in searches (patches_with address w own)) ++ forms_text searches own address rest
 
 -- those of a FENCE
 abbrev pub weaker_text : List Search → List Patch → (address : ℕ) → Option ℕ → List ℕ
@@ -206,7 +216,7 @@ whole_text names symbols a =
     ordering_texts names symbols a 0 a.orderings.items ++ (last_text a ++ counts_text a)
 
 abbrev pub undecided_text : Audit → List ℕ
-undecided_text a = codes "undecided: the program as it is" ++ (bound_text a.known.reach a.known.window ++ codes "\n")
+undecided_text a = codes "undecided: the program as it is" ++ (bound_text a.known ++ codes "\n")
 
 -- where words of memory are called so, and instructions lie at these symbols
 abbrev pub audit_text : List WordName → List Named → Audit → List ℕ

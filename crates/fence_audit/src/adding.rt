@@ -6,10 +6,10 @@ ghost use Rattle.fence_audit.specs.Searches.{ArePatchesOf, AreSearched, Grows, I
 ghost use Rattle.image_orderings.specs.Replaced.{IsPatchOf};
 
 use crate::answers::is_enough;
-use crate::searches::{Asking, Search};
+use crate::searches::{Asking, Search, Steps};
 use image_orderings::{Patch, milder_words, patches_with, word_in};
-use state_search::Watch;
 use std::alloc::AllocError;
+use std::thread::Threads;
 
 /// The searches of programs with more orderings, and the one that they lead to.
 #[derive(Drop)]
@@ -18,11 +18,18 @@ pub(crate) struct Added {
     pub last: Vec<Patch>,
 }
 
+/// How many programs are searched at most: as it is, with all that it may order, twice with each of its own words, and with
+/// the at most 11 words between the two.
+fn most_added(own: &[Patch]) -> u64 {
+    (own.len() as u64).saturating_mul(13).saturating_add(2)
+}
+
 impl Asking<'_> {
     /// Asks for the program with all of these orderings; where they are enough, for ever fewer of them, and at last for
     /// the program that is left without each.
-    pub(crate) fn addition<W: Watch>(
+    pub(crate) fn addition<R: Threads + Sync, W: Steps + Sync>(
         &self,
+        rt: &R,
         own: &[Patch],
         most: &[Patch],
         watch: &W,
@@ -32,19 +39,21 @@ impl Asking<'_> {
         requires of_image { ArePatchesOf self.now.question most.now }
         ensures { IfOk result (λ r. IsAddition self.now own.now most.now r.searches.items r.last.items) }
     {
+        watch.expects(most_added(own));
         let mut searches = Vec::new(self.alloc);
         let last = most.to_vec(self.alloc)?;
         let answer = self.ask(&mut searches, most, watch)?;
         if !is_enough(answer) {
             return Ok(Added { searches, last });
         }
-        let last = self.trimmed(&mut searches, own, most, last, watch)?;
+        let last = self.trimmed(rt, &mut searches, own, most, last, watch)?;
         Ok(Added { searches, last })
     }
 
     /// The program with each of its own words again in turn, and then with words that order less, where that is enough.
-    fn trimmed<W: Watch>(
+    fn trimmed<R: Threads + Sync, W: Steps + Sync>(
         &self,
+        rt: &R,
         searches: &mut Vec<Search>,
         own: &[Patch],
         most: &[Patch],
@@ -62,12 +71,13 @@ impl Asking<'_> {
     {
         let last = self.reverted(searches, own, most, last, watch)?;
         let last = self.milder(searches, own, most, last, watch)?;
+        self.prepare_reverted(rt, searches, own, &last, watch)?;
         self.ask_reverted(searches, own, &last, watch)?;
         Ok(last)
     }
 
     /// The program with each of its own words again in turn, where that is enough.
-    fn reverted<W: Watch>(
+    fn reverted<W: Steps + Sync>(
         &self,
         searches: &mut Vec<Search>,
         own: &[Patch],
@@ -93,7 +103,7 @@ impl Asking<'_> {
     }
 
     /// The program with words that order less where its own are replaced, where that is enough.
-    fn milder<W: Watch>(
+    fn milder<W: Steps + Sync>(
         &self,
         searches: &mut Vec<Search>,
         own: &[Patch],
@@ -118,7 +128,7 @@ impl Asking<'_> {
 
     /// The program with the first word that is enough of those that order less than the one at an address, unless that is
     /// its own.
-    fn milder_at<W: Watch>(
+    fn milder_at<W: Steps + Sync>(
         &self,
         searches: &mut Vec<Search>,
         own: Patch,
@@ -145,7 +155,7 @@ impl Asking<'_> {
     }
 
     /// Asks for the program with each of its own words again.
-    fn ask_reverted<W: Watch>(
+    fn ask_reverted<W: Steps + Sync>(
         &self,
         searches: &mut Vec<Search>,
         own: &[Patch],
@@ -166,7 +176,7 @@ impl Asking<'_> {
     }
 
     /// Asks for the program with one of its own words again.
-    fn ask_with<W: Watch>(
+    fn ask_with<W: Steps + Sync>(
         &self,
         searches: &mut Vec<Search>,
         own: Patch,

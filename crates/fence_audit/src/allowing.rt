@@ -8,13 +8,13 @@ ghost use Rattle.fence_audit.specs.Searches.{IsReady};
 use crate::adding::Added;
 use crate::answers::{Standard, answer_of, is_whole, refused_place};
 use crate::auditing::{Audit, audit_with, parts_of};
-use crate::searches::{Asking, Question, Search, World, explore};
+use crate::searches::{Asking, Question, Search, Steps, World, explore};
 use allowed_outcomes::Allowed;
 use architecture_outcomes::Architecture;
 use exploration_text::WordName;
 use image_orderings::{Patch, met_places, patches_strengthened, places_of};
-use state_search::Watch;
 use std::alloc::{AllocError, Global};
+use std::thread::Threads;
 
 /// What a program lacks that has outcomes that aren't allowed. What is known of it stands at `audit_allowed`.
 #[derive(Drop)]
@@ -48,7 +48,8 @@ pub enum Allowance {
 /// `audit_program`, but for outcomes that are allowed in place of the same ones. Where one isn't allowed, the program with
 /// all orderings that it may have is searched; where that is enough, each of its own words is put back in turn, by
 /// addresses, and then words that order less, where that is enough. The error is that there was no memory.
-pub fn audit_allowed<W: Watch>(
+pub fn audit_allowed<R: Threads + Sync, W: Steps + Sync>(
+    rt: &R,
     alloc: Global,
     question: Question<'_>,
     names: &[WordName<'_>],
@@ -62,13 +63,14 @@ pub fn audit_allowed<W: Watch>(
     let standard = Standard::Within(names, allowed);
     let answer = answer_of(alloc, standard, &known)?;
     match refused_place(answer) {
-        Some(place) => broken(alloc, question, standard, known, place, watch),
-        None => kept(alloc, question, standard, known, watch),
+        Some(place) => broken(rt, alloc, question, standard, known, place, watch),
+        None => kept(rt, alloc, question, standard, known, watch),
     }
 }
 
 /// What the program needs, of which this is known: no outcome that isn't allowed.
-fn kept<W: Watch>(
+fn kept<R: Threads + Sync, W: Steps + Sync>(
+    rt: &R,
     alloc: Global,
     question: Question<'_>,
     standard: Standard<'_>,
@@ -80,12 +82,13 @@ fn kept<W: Watch>(
     requires allowed { refused_place (answer_of standard known) ≡ None }
     ensures { IfOk result (IsAllowance question.entry.world question.entry.image.now question.entry.config question.entry.addresses.now question.entry.window question.entry.limit (answer_of standard.entry)) }
 {
-    let parts = parts_of(alloc, question, standard, is_whole(&known), watch)?;
+    let parts = parts_of(rt, alloc, question, standard, is_whole(&known), watch)?;
     Ok(Allowance::Kept(audit_with(question.world, known, parts)))
 }
 
 /// What the program lacks, of which this is known: at this place an outcome that isn't allowed.
-fn broken<W: Watch>(
+fn broken<R: Threads + Sync, W: Steps + Sync>(
+    rt: &R,
     alloc: Global,
     question: Question<'_>,
     standard: Standard<'_>,
@@ -98,12 +101,13 @@ fn broken<W: Watch>(
     requires refused { refused_place (answer_of standard known) ≡ Some place }
     ensures { IfOk result (IsAllowance question.entry.world question.entry.image.now question.entry.config question.entry.addresses.now question.entry.window question.entry.limit (answer_of standard.entry)) }
 {
-    let missing = missing_of(alloc, question, standard, known, place, watch)?;
+    let missing = missing_of(rt, alloc, question, standard, known, place, watch)?;
     Ok(Allowance::Broken(missing))
 }
 
 /// What the program lacks, of which this is known.
-fn missing_of<W: Watch>(
+fn missing_of<R: Threads + Sync, W: Steps + Sync>(
+    rt: &R,
     alloc: Global,
     question: Question<'_>,
     standard: Standard<'_>,
@@ -122,7 +126,7 @@ fn missing_of<W: Watch>(
         question,
         standard,
     };
-    let Added { searches, last } = asking.addition(&own, &most, watch)?;
+    let Added { searches, last } = asking.addition(rt, &own, &most, watch)?;
     Ok(Missing {
         world: question.world,
         known,

@@ -42,6 +42,16 @@ pub fn is_whole(found: &Architecture) -> bool
     }
 }
 
+/// Whether the search under the model or the machine's own ended for want of memory.
+pub fn lacked_memory(found: &Architecture) -> bool
+    ensures { result ≡ spec.lacked_memory found.now }
+{
+    match (found.reach, found.machine) {
+        (Reach::OutOfMemory, _) | (_, Extent::OutOfMemory) => true,
+        _ => false,
+    }
+}
+
 /// Whether it was whole, and has the outcomes that it is to have.
 pub(crate) fn is_enough(answer: Answer) -> bool
     ensures { result ≡ spec.is_enough answer }

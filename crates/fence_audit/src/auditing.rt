@@ -7,13 +7,13 @@ ghost use Rattle.fence_audit.specs.Auditing.{ArePartsOf, IsAudit, IsLeftOut, IsR
 ghost use Rattle.fence_audit.specs.Searches.{ArePatchesOf, AreSearched, Grows, IsReady};
 
 use crate::answers::{Standard, is_whole, refused_place};
-use crate::searches::{Asking, Question, Search, World, explore, search_in};
+use crate::searches::{Asking, Question, Search, Steps, World, explore, search_in};
 use architecture_outcomes::{Architecture, Outcome};
 use image_orderings::{
-    ImageOrdering, Patch, met_orderings, orderings_of, own_patches, patches_without,
+    ImageOrdering, Part, Patch, met_orderings, orderings_of, own_patches, patches_without,
 };
-use state_search::Watch;
 use std::alloc::{AllocError, Global};
+use std::thread::Threads;
 
 /// Which of a program's orderings it needs. What is known of it stands at `audit_program`.
 #[derive(Drop)]
@@ -36,9 +36,10 @@ pub struct Audit {
 
 /// Searches the program as it is, and where that search is whole without each of its orderings to which a hart may come, with weaker FENCEs in
 /// place of those that are needed, and with ever fewer orderings: each is left out in turn, by addresses, and then each
-/// FENCE made weaker, where the outcomes stay the same. Meanwhile `watch` is told how far each search is. The error is
-/// that there was no memory.
-pub fn audit_program<W: Watch>(
+/// FENCE made weaker, where the outcomes stay the same. Programs that are known beforehand are searched side by side.
+/// Meanwhile `watch` is told how far it is. The error is that there was no memory.
+pub fn audit_program<R: Threads + Sync, W: Steps + Sync>(
+    rt: &R,
     alloc: Global,
     question: Question<'_>,
     watch: &W,
@@ -48,7 +49,7 @@ pub fn audit_program<W: Watch>(
 {
     let known = explore(alloc, question, &[], watch)?;
     let standard = Standard::AsItIs(&known.outcomes);
-    let parts = parts_of(alloc, question, standard, is_whole(&known), watch)?;
+    let parts = parts_of(rt, alloc, question, standard, is_whole(&known), watch)?;
     Ok(audit_with(question.world, known, parts))
 }
 
@@ -84,7 +85,8 @@ pub(crate) fn audit_with(world: World, known: Architecture, parts: Parts) -> Aud
 }
 
 /// The searches of programs with fewer orderings, if the program as it is has been searched whole.
-pub(crate) fn parts_of<W: Watch>(
+pub(crate) fn parts_of<R: Threads + Sync, W: Steps + Sync>(
+    rt: &R,
     alloc: Global,
     question: Question<'_>,
     standard: Standard<'_>,
@@ -113,7 +115,7 @@ pub(crate) fn parts_of<W: Watch>(
         question,
         standard,
     };
-    let Reduced { searches, last } = asking.reduction(&met, &own, watch)?;
+    let Reduced { searches, last } = asking.reduction(rt, &met, &own, watch)?;
     Ok(Parts {
         orderings,
         met,
@@ -121,6 +123,15 @@ pub(crate) fn parts_of<W: Watch>(
         searches,
         last,
     })
+}
+
+/// How many programs are searched at most: as it is, twice without each ordering and once with ever fewer, and twice with
+/// each of the 9 weaker ones in place of a FENCE.
+fn most_searched(orderings: &[ImageOrdering]) -> u64 {
+    let fences = orderings.iter().filter(|each| each.part == Part::Fence);
+    let weaker = (fences.count() as u64).saturating_mul(18);
+    let without = (orderings.len() as u64).saturating_mul(3);
+    without.saturating_add(weaker).saturating_add(1)
 }
 
 /// The searches of an audit, and the program with fewer orderings that they lead to.
@@ -133,8 +144,9 @@ struct Reduced {
 impl Asking<'_> {
     /// Searches without each of the orderings, with weaker FENCEs in place of those that are needed, and with ever fewer
     /// orderings.
-    fn reduction<W: Watch>(
+    fn reduction<R: Threads + Sync, W: Steps + Sync>(
         &self,
+        rt: &R,
         orderings: &[ImageOrdering],
         own: &[Patch],
         watch: &W,
@@ -144,16 +156,20 @@ impl Asking<'_> {
         requires places { All (λ o. HasWord self.now.question.image.now o.address) orderings.now }
         ensures { IfOk result (λ r. IsReduction self.now orderings.now own.now r.searches.items r.last.items) }
     {
+        watch.expects(most_searched(orderings));
         let mut searches = Vec::new(self.alloc);
+        self.prepare(rt, &mut searches, orderings, own, watch)?;
         self.ask_each(&mut searches, orderings, own, watch)?;
+        self.prepare_forms(rt, &mut searches, orderings, own, watch)?;
         self.weigh_each(&mut searches, orderings, own, watch)?;
         let last = self.reduced(&mut searches, orderings, own, watch)?;
+        self.prepare(rt, &mut searches, orderings, &last, watch)?;
         self.ask_each(&mut searches, orderings, &last, watch)?;
         Ok(Reduced { searches, last })
     }
 
     /// Asks for the program without each of the orderings in turn.
-    fn ask_each<W: Watch>(
+    fn ask_each<W: Steps + Sync>(
         &self,
         searches: &mut Vec<Search>,
         orderings: &[ImageOrdering],
@@ -173,7 +189,7 @@ impl Asking<'_> {
     }
 
     /// Asks for the program without one of its orderings.
-    fn ask_without<W: Watch>(
+    fn ask_without<W: Steps + Sync>(
         &self,
         searches: &mut Vec<Search>,
         ordering: ImageOrdering,

@@ -7,7 +7,7 @@ use crate::spelling::{
     spell_searched, spell_symbol, spell_text, spell_word,
 };
 use crate::{Answer, Missing, Search, search_in};
-use architecture_outcomes::window_search::Reach;
+use architecture_outcomes::Architecture;
 use elf_symbols::Symbols;
 use exploration_text::WordName;
 use image_orderings::{NOP, Patch, patches_with, word_in};
@@ -79,16 +79,16 @@ fn spell_answer(
             )
         }
         Answer::Fewer(_) => Ok(()),
-        Answer::Bounded => spell_open(into, search.found.reach, search.found.window),
+        Answer::Bounded => spell_open(into, &search.found),
     }
 }
 
-fn spell_open(into: &mut Vec<u8>, reach: Reach, window: u32) -> Result<(), AllocError>
-    ensures { OnOk result (into.new.items ≡ into.old.items ++ text.open_text reach window) }
+fn spell_open(into: &mut Vec<u8>, found: &Architecture) -> Result<(), AllocError>
+    ensures { OnOk result (into.new.items ≡ into.old.items ++ text.open_text found.now) }
 {
-    into.extend_from_slice(b"undecided, all that may order")?;
-    spell_bound(into, reach, window)?;
-    into.extend_from_slice(b"\n")?;
+    spell_text(into, b"undecided, all that may order")?;
+    spell_bound(into, found)?;
+    spell_text(into, b"\n")?;
     Ok(())
 }
 

@@ -10,13 +10,14 @@ mod lacking;
 mod machine;
 mod reducing;
 mod searches;
+mod side_by_side;
 mod spelling;
 mod weighing;
 
 pub use allowed_outcomes;
 pub use allowing::{Allowance, Missing, audit_allowed};
-pub use answers::{Answer, Standard, is_whole};
+pub use answers::{Answer, Standard, is_whole, lacked_memory};
 pub use auditing::{Audit, audit_program, shown_without};
 pub use lacking::lacking_text;
-pub use searches::{Question, Search, World, search_in};
+pub use searches::{Question, Search, Steps, World, search_in};
 pub use spelling::text_of;

@@ -6,17 +6,16 @@ ghost use Rattle.fence_audit.specs.Searches.{ArePatchesOf, AreSearched, Grows, I
 ghost use Rattle.image_orderings.specs.Forms.{IsVariant};
 
 use crate::answers::Answer;
-use crate::searches::{Asking, Search};
+use crate::searches::{Asking, Search, Steps};
 use image_orderings::{
     ImageOrdering, Part, Patch, patches_with, patches_without, weaker_words, word_in,
 };
-use state_search::Watch;
 use std::alloc::AllocError;
 
 impl Asking<'_> {
     /// The program with each ordering left out in turn, and then each FENCE made weaker, where the outcomes stay the
     /// same.
-    pub(crate) fn reduced<W: Watch>(
+    pub(crate) fn reduced<W: Steps + Sync>(
         &self,
         searches: &mut Vec<Search>,
         orderings: &[ImageOrdering],
@@ -38,7 +37,7 @@ impl Asking<'_> {
     }
 
     /// The program without an ordering, where the outcomes stay the same, or else as it was.
-    fn reduced_by<W: Watch>(
+    fn reduced_by<W: Steps + Sync>(
         &self,
         searches: &mut Vec<Search>,
         ordering: ImageOrdering,
@@ -62,7 +61,7 @@ impl Asking<'_> {
     }
 
     /// The program with each FENCE made weaker, where the outcomes stay the same.
-    fn weakened<W: Watch>(
+    fn weakened<W: Steps + Sync>(
         &self,
         searches: &mut Vec<Search>,
         orderings: &[ImageOrdering],
@@ -89,7 +88,7 @@ impl Asking<'_> {
 
     /// The program with the first FENCE at an address that is enough, of those that order less than the one there and
     /// begin with those of fewest pairs.
-    fn weakened_at<W: Watch>(
+    fn weakened_at<W: Steps + Sync>(
         &self,
         searches: &mut Vec<Search>,
         address: u32,
@@ -113,7 +112,7 @@ impl Asking<'_> {
     }
 
     /// The program with the first of these words at an address that is enough, or else as it was.
-    pub(crate) fn replaced_at<W: Watch>(
+    pub(crate) fn replaced_at<W: Steps + Sync>(
         &self,
         searches: &mut Vec<Search>,
         address: u32,

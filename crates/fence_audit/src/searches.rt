@@ -12,8 +12,23 @@ use elf_loader::Image;
 use exploration_text::explorer::Exploring;
 use image_orderings::{Patch, patched};
 use machine_types::Config;
-use state_search::{Throughout, Watch};
+use state_search::{Throughout, Unwatched, Watch};
 use std::alloc::{AllocError, Global};
+
+/// Is told how far an audit is, beside how far each of its searches is.
+pub trait Steps: Watch {
+    /// No more than so many programs will be searched.
+    fn expects(&self, most: u64);
+
+    /// So many were searched so far.
+    fn searched(&self, programs: u64);
+}
+
+impl Steps for Unwatched {
+    fn expects(&self, _most: u64) {}
+
+    fn searched(&self, _programs: u64) {}
+}
 
 /// A search of an image with words replaced.
 #[derive(Drop)]
@@ -47,6 +62,8 @@ pub struct Question<'a> {
     /// How many states each search may find.
     pub limit: u32,
     pub world: World,
+    /// How many searches may go side by side: one at a time where it is 0.
+    pub threads: usize,
 }
 
 /// The search of the image with these words replaced, if it was made.
@@ -148,9 +165,14 @@ fn search_model<W: Watch>(
     )
 }
 
+/// Tells how many programs were searched, with the one as it is.
+pub(crate) fn tell<W: Steps>(searches: &[Search], watch: &W) {
+    watch.searched((searches.len() as u64).saturating_add(1));
+}
+
 impl Asking<'_> {
     /// What a search of the program with these words replaced answers. It is made unless it was already.
-    pub(crate) fn ask<W: Watch>(
+    pub(crate) fn ask<W: Steps + Sync>(
         &self,
         searches: &mut Vec<Search>,
         patches: &[Patch],
@@ -168,11 +190,16 @@ impl Asking<'_> {
         let search = self.search(patches, watch)?;
         let answer = search.answer;
         searches.push(search)?;
+        tell(searches, watch);
         Ok(answer)
     }
 
     /// A search of the program with these words replaced.
-    fn search<W: Watch>(&self, patches: &[Patch], watch: &W) -> Result<Search, AllocError>
+    pub(crate) fn search<W: Steps + Sync>(
+        &self,
+        patches: &[Patch],
+        watch: &W,
+    ) -> Result<Search, AllocError>
         requires ready { IsReady self.now.question }
         requires of_image { ArePatchesOf self.now.question patches.now }
         ensures patches { IfOk result (λ search. search.patches.items ≡ patches.now) }

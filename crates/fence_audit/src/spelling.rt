@@ -10,9 +10,9 @@ ghost use Rattle.image_orderings.specs.Programs.{is_kept};
 ghost use Rattle.exploration_text.specs.Naming.{place_before};
 ghost use Rattle.text_fields.specs.Fields.{word as hexadecimal};
 
-use crate::{Answer, Audit, Search, World, is_whole, search_in};
-use architecture_outcomes::Outcome;
+use crate::{Answer, Audit, Search, World, is_whole, lacked_memory, search_in};
 use architecture_outcomes::window_search::Reach;
+use architecture_outcomes::{Architecture, Outcome};
 use assembly::spell_assembly;
 use elf_symbols::Symbols;
 use exploration_text::order_text::spell_place;
@@ -46,9 +46,9 @@ pub fn text_of(
 fn spell_undecided(into: &mut Vec<u8>, audit: &Audit) -> Result<(), AllocError>
     ensures { OnOk result (into.new.items ≡ into.old.items ++ text.undecided_text audit.now) }
 {
-    into.extend_from_slice(b"undecided: the program as it is")?;
-    spell_bound(into, audit.known.reach, audit.known.window)?;
-    into.extend_from_slice(b"\n")?;
+    spell_text(into, b"undecided: the program as it is")?;
+    spell_bound(into, &audit.known)?;
+    spell_text(into, b"\n")?;
     Ok(())
 }
 
@@ -143,9 +143,19 @@ fn spell_part(into: &mut Vec<u8>, part: Part) -> Result<(), AllocError>
     Ok(())
 }
 
-/// What a search left out.
-pub(crate) fn spell_bound(into: &mut Vec<u8>, reach: Reach, window: u32) -> Result<(), AllocError>
-    ensures { OnOk result (into.new.items ≡ into.old.items ++ text.bound_text reach window) }
+/// Why a search isn't whole.
+pub(crate) fn spell_bound(into: &mut Vec<u8>, found: &Architecture) -> Result<(), AllocError>
+    ensures { OnOk result (into.new.items ≡ into.old.items ++ text.bound_text found.now) }
+{
+    if lacked_memory(found) {
+        return spell_text(into, b", out of memory");
+    }
+    spell_reach(into, found.reach, found.window)
+}
+
+/// How far the search under the model came, or else that the machine's own met its limit.
+fn spell_reach(into: &mut Vec<u8>, reach: Reach, window: u32) -> Result<(), AllocError>
+    ensures { OnOk result (into.new.items ≡ into.old.items ++ text.reach_text reach window) }
 {
     match reach {
         Reach::Whole => spell_text(into, b", this machine's states"),
@@ -382,7 +392,7 @@ fn spell_answer(
                 place,
             )
         }
-        Answer::Bounded => spell_open(into, search.found.reach, search.found.window),
+        Answer::Bounded => spell_open(into, &search.found),
     }
 }
 
@@ -422,11 +432,11 @@ fn spell_outcome(
     Ok(())
 }
 
-fn spell_open(into: &mut Vec<u8>, reach: Reach, window: u32) -> Result<(), AllocError>
-    ensures { OnOk result (into.new.items ≡ into.old.items ++ (codes "undecided" ++ (text.bound_text reach window ++ codes "\n"))) }
+fn spell_open(into: &mut Vec<u8>, found: &Architecture) -> Result<(), AllocError>
+    ensures { OnOk result (into.new.items ≡ into.old.items ++ (codes "undecided" ++ (text.bound_text found.now ++ codes "\n"))) }
 {
     into.extend_from_slice(b"undecided")?;
-    spell_bound(into, reach, window)?;
+    spell_bound(into, found)?;
     into.extend_from_slice(b"\n")?;
     Ok(())
 }
@@ -462,7 +472,7 @@ fn spell_forms(
     let mut rest = words.as_slice();
     while let [first, tail @ ..] = rest {
         let changed = patches_with(alloc, &audit.own, address, *first)?;
-        spell_form(into, *first, answer_in(&audit.searches, &changed))?;
+        spell_form(into, *first, search_in(&audit.searches, &changed))?;
         rest = tail;
     }
     Ok(())
@@ -475,21 +485,46 @@ pub(crate) fn answer_in(searches: &[Search], patches: &[Patch]) -> Option<Answer
     Some(search.answer)
 }
 
-fn spell_form(into: &mut Vec<u8>, word: u32, answer: Option<Answer>) -> Result<(), AllocError>
-    ensures { OnOk result (into.new.items ≡ into.old.items ++ text.form_text word answer) }
+fn spell_form(into: &mut Vec<u8>, word: u32, search: Option<&Search>) -> Result<(), AllocError>
+    ensures { OnOk result (into.new.items ≡ into.old.items ++ text.form_text word (option_map (λ s. s.now) search.entry)) }
 {
-    match answer {
-        Some(Answer::Same) => spell_of_form(into, b"    enough: ", word),
-        Some(Answer::Bounded) => spell_of_form(into, b"    undecided: ", word),
-        Some(Answer::Other(_) | Answer::Fewer(_)) | None => Ok(()),
+    match search {
+        Some(search) => spell_form_by(into, word, &search.found, search.answer),
+        None => Ok(()),
     }
 }
 
-fn spell_of_form(into: &mut Vec<u8>, what: &[u8], word: u32) -> Result<(), AllocError>
-    ensures { OnOk result (into.new.items ≡ into.old.items ++ (what.now ++ (text.word_text (Some word) ++ codes "\n"))) }
+/// A FENCE that is enough, or may be.
+fn spell_form_by(
+    into: &mut Vec<u8>,
+    word: u32,
+    found: &Architecture,
+    answer: Answer,
+) -> Result<(), AllocError>
+    ensures { OnOk result (into.new.items ≡ into.old.items ++ text.form_by word found.now answer) }
 {
-    into.extend_from_slice(what)?;
+    match answer {
+        Answer::Same => spell_enough(into, word),
+        Answer::Bounded => spell_open_form(into, word, found),
+        Answer::Other(_) | Answer::Fewer(_) => Ok(()),
+    }
+}
+
+fn spell_enough(into: &mut Vec<u8>, word: u32) -> Result<(), AllocError>
+    ensures { OnOk result (into.new.items ≡ into.old.items ++ (codes "    enough: " ++ (text.word_text (Some word) ++ codes "\n"))) }
+{
+    spell_text(into, b"    enough: ")?;
     spell_word(into, Some(word))?;
+    spell_text(into, b"\n")?;
+    Ok(())
+}
+
+fn spell_open_form(into: &mut Vec<u8>, word: u32, found: &Architecture) -> Result<(), AllocError>
+    ensures { OnOk result (into.new.items ≡ into.old.items ++ (codes "    undecided: " ++ (text.word_text (Some word) ++ (text.bound_text found.now ++ codes "\n")))) }
+{
+    into.extend_from_slice(b"    undecided: ")?;
+    spell_word(into, Some(word))?;
+    spell_bound(into, found)?;
     into.extend_from_slice(b"\n")?;
     Ok(())
 }

@@ -7,16 +7,15 @@ ghost use Rattle.fence_audit.specs.Searches.{ArePatchesOf, AreSearched, Grows, I
 ghost use Rattle.image_orderings.specs.Forms.{IsVariant, weaker_words};
 
 use crate::answers::Answer;
-use crate::searches::{Asking, Search};
+use crate::searches::{Asking, Search, Steps};
 use image_orderings::{
     ImageOrdering, Part, Patch, is_weaker, patches_with, patches_without, weaker_words,
 };
-use state_search::Watch;
 use std::alloc::AllocError;
 
 impl Asking<'_> {
     /// Asks of each FENCE without which the program has other outcomes for weaker ones in its place.
-    pub(crate) fn weigh_each<W: Watch>(
+    pub(crate) fn weigh_each<W: Steps + Sync>(
         &self,
         searches: &mut Vec<Search>,
         orderings: &[ImageOrdering],
@@ -37,7 +36,7 @@ impl Asking<'_> {
     }
 
     /// The same of one ordering.
-    fn weigh<W: Watch>(
+    fn weigh<W: Steps + Sync>(
         &self,
         searches: &mut Vec<Search>,
         ordering: ImageOrdering,
@@ -65,7 +64,7 @@ impl Asking<'_> {
 
     /// Asks for the FENCEs that order less than the one of this word, those of fewer pairs first, unless a weaker one is
     /// enough.
-    fn weigh_fence<W: Watch>(
+    fn weigh_fence<W: Steps + Sync>(
         &self,
         searches: &mut Vec<Search>,
         address: u32,
@@ -90,7 +89,7 @@ impl Asking<'_> {
 
     /// Asks for the FENCE of this word at an address, unless one of those that are enough is weaker, and adds it to them
     /// where it is enough.
-    fn weigh_form<W: Watch>(
+    fn weigh_form<W: Steps + Sync>(
         &self,
         searches: &mut Vec<Search>,
         enough: &mut Vec<u32>,

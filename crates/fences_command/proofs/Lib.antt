@@ -1,1 +1,6 @@
+mod Changed
+mod Readable
+mod Shown
+mod Spare
 mod Told
+mod Witnessed

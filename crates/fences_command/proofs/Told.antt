@@ -1,7 +1,7 @@
 -- Which faults the command hands up, and what its result says.
-use Rattle.std.proofs.Common.{◌≡◌, ◌∙◌, ◌⊎◌, ℕ, Bool, IfOk, IfSome, List, None, Option, Result, Some, ap, refl, inl, inr, subst, sym}
+use Rattle.std.proofs.Common.{◌≡◌, ◌∙◌, ◌⊎◌, ℕ, Bool, Err, IfErr, IfOk, IfSome, List, None, Ok, Option, Result, Some, ap, refl, inl, inr, subst, sym}
 use Rattle.std.specs.declared.alloc.AllocError.{AllocError}
-use Rattle.command_files.specs.Contents.{Contents}
+use Rattle.command_files.specs.Contents.{Contents, HoldsBytes}
 use Rattle.command_files.specs.Faults.{IsImageFault, IsReadFault, Name}
 use Rattle.command_files.specs.Sizes.{IsInside, config_named}
 use Rattle.command_files.specs.declared.fault.Fault.{Fault}
@@ -12,21 +12,20 @@ use Rattle.elf_symbols.specs.Named.{Named}
 use Rattle.command_files.specs.Allowing.{IsAllowFile, IsNamedBy}
 use Rattle.command_files.specs.declared.allowing.Judgement.{Judgement}
 use Rattle.command_files.specs.declared.fault.Unshown.{Unshown}
+use Rattle.command_settings.specs.declared.wanted.Fences.{Fences}
+use Rattle.fences_command.specs.Keeping.{IsProgramFile, IsProgramKept, IsUnread}
+use Rattle.fences_command.specs.Witnesses.{AllSpare, AreShownFor, IsFencesFile, IsNeededFile}
+use Rattle.search_files.proofs.Files.{all_of, output_left}
+use Rattle.search_files.specs.Faults.{ComesBeforeScripts, IsFolderFault, LeavesPart}
+use Rattle.search_files.specs.Folders.{HasName, IsInNamed, SparesOthers}
 use Rattle.search_files.specs.Targets.{AreAddressesOf, ComesBehindShown, IsUnplaced, IsUnshown, names_of}
 use Rattle.search_files.specs.WordName.{WordName}
-use Rattle.command_settings.specs.declared.wanted.Fences.{Fences}
-use Rattle.search_files.proofs.Files.{all_of}
-use Rattle.search_files.proofs.Files.{output_left}
-use Rattle.search_files.specs.Faults.{IsFolderFault, LeavesPart}
-use Rattle.search_files.specs.Folders.{SparesOthers}
-use Rattle.fences_command.specs.Keeping.{IsProgramFile, IsProgramKept, IsTarget, IsTargetFault, IsUnread}
-use Rattle.fences_command.specs.declared.keeping.Target.{Target}
 use Rattle.fence_audit.specs.Adding.{IsAllowance}
 use Rattle.std.specs.Io.KnownBytes.{Appends}
 use Rattle.fence_audit.specs.Answers.{answer_within}
 use Rattle.fence_audit.specs.declared.searches.World.{World}
 use Rattle.fence_audit.specs.declared.allowing.Allowance.{Allowance}
-use Rattle.fences_command.specs.Fencing.{AuditHas, IsAuditTold, IsFencesFault, IsOfFile, IsSought, judgement_of, told_text, world_of}
+use Rattle.fences_command.specs.Fencing.{AuditHas, HadMemory, IsAuditTold, IsFencesFault, IsKeepingFault, IsOfFile, IsSought, judgement_of, told_text, world_of}
 use Rattle.machine_types.specs.declared.config.Config.{Config}
 use Rattle.search_files.specs.Named.{HoldsNamedImage}
 use Rattle.text_fields.specs.Writing.{Begins}
@@ -117,46 +116,57 @@ words_are_not_write image symbols words fault (inl (word, first, unplaced)) at =
 words_are_not_write image symbols words fault (inr memory) at =
     let bad : OutOfMemory ≡ CannotWrite = sym memory ∙ at in cc
 
--- ---- the file for the program
+-- ---- the files for the program and for runs
 
-unread_at : (held : Contents) (fences : Fences) (target : Option Target) → IsTarget held fences target → IfSome fences.write (λ name. IsUnread fences name.now)
-unread_at held fences None aimed = subst (λ (o : Option Name). IfSome o (λ name. IsUnread fences name.now)) (sym aimed) tt
-unread_at held fences (Some target) aimed = subst (λ (o : Option Name). IfSome o (λ name. IsUnread fences name.now)) (sym aimed.0) aimed.2
-
--- it can't be made, or memory ran out
-unkept : (write : Option Name) (fault : Fault) → IsNamedBy write IsFolderFault fault → ((name : Name) × (write ≡ Some name) × (fault ≡ CannotMake name)) ⊎ (fault ≡ OutOfMemory)
-unkept None fault is = absurd is
-unkept (Some name) fault is = elim is [
+-- one can't be made, or memory ran out
+unmade : (file : Option Name) (fault : Fault) → IsNamedBy file IsFolderFault fault → ((name : Name) × (file ≡ Some name) × (fault ≡ CannotMake name)) ⊎ (fault ≡ OutOfMemory)
+unmade None fault is = absurd is
+unmade (Some name) fault is = elim is [
   | inl at ↦ inl (name, refl, at)
   | inr at ↦ inr at
 ]
 
-pub of_kept : (held : Contents) (wanted : Wanted) (fault : Fault) → IsNamedBy wanted.fences.write IsFolderFault fault → IsFencesFault held wanted fault
-of_kept held wanted fault is = elim (unkept wanted.fences.write fault is) [
-  | inl at ↦ subst (IsFencesFault held wanted) (sym at.2) at.1
+pub of_program : (held : Contents) (wanted : Wanted) (fault : Fault) → IsNamedBy wanted.fences.write IsFolderFault fault → IsFencesFault held wanted fault
+of_program held wanted fault is = elim (unmade wanted.fences.write fault is) [
+  | inl at ↦ subst (IsFencesFault held wanted) (sym at.2) (inl at.1)
   | inr at ↦ subst (IsFencesFault held wanted) (sym at) tt
 ]
 
-module _ (held : Contents) (wanted : Wanted) (fault : Fault) where
-  target_told : (write : Option Name) → wanted.fences.write ≡ write → IsNamedBy write (λ name f. (f ≡ CannotMake name) ⊎ ((f ≡ OutOfMemory) ⊎ IsReadFault wanted.fences.image f)) fault → IsFencesFault held wanted fault
-  target_told None at is = absurd is
-  target_told (Some name) at (inl made) = subst (IsFencesFault held wanted) (sym made) at
-  target_told (Some name) at (inr (inl memory)) = subst (IsFencesFault held wanted) (sym memory) tt
-  target_told (Some name) at (inr (inr read)) = of_read held wanted fault read
+pub of_runs : (held : Contents) (wanted : Wanted) (fault : Fault) → IsNamedBy wanted.fences.scripts IsFolderFault fault → IsFencesFault held wanted fault
+of_runs held wanted fault is = elim (unmade wanted.fences.scripts fault is) [
+  | inl at ↦ subst (IsFencesFault held wanted) (sym at.2) (inr at.1)
+  | inr at ↦ subst (IsFencesFault held wanted) (sym at) tt
+]
 
-  pub of_target : IsTargetFault wanted.fences fault → IsFencesFault held wanted fault
-  of_target is = target_told wanted.fences.write refl is
+pub of_kept : (held : Contents) (wanted : Wanted) (fault : Fault) → IsKeepingFault wanted.fences fault → IsFencesFault held wanted fault
+of_kept held wanted fault (inl is) = of_program held wanted fault is
+of_kept held wanted fault (inr is) = of_runs held wanted fault is
 
-  target_unprinted : (write : Option Name) → IsNamedBy write (λ name f. (f ≡ CannotMake name) ⊎ ((f ≡ OutOfMemory) ⊎ IsReadFault wanted.fences.image f)) fault → fault ≡ CannotWrite → ⊥
-  target_unprinted None is at = is
-  target_unprinted (Some name) (inl made) at =
-      let bad : CannotMake name ≡ CannotWrite = sym made ∙ at in cc
-  target_unprinted (Some name) (inr (inl memory)) at =
+pub runs_fault : {T : Type 0} (fences : Fences) (r : Result T Fault) → IfErr r (IsNamedBy fences.scripts IsFolderFault) → IfErr r (IsKeepingFault fences)
+runs_fault fences (Ok done) is = tt
+runs_fault fences (Err fault) is = inr is
+
+pub unmade_is_not_write : (file : Option Name) (fault : Fault) → IsNamedBy file IsFolderFault fault → fault ≡ CannotWrite → ⊥
+unmade_is_not_write file fault is at = elim (unmade file fault is) [
+  | inl made ↦
+      let bad : CannotMake made.0 ≡ CannotWrite = sym made.2 ∙ at in cc
+  | inr memory ↦
       let bad : OutOfMemory ≡ CannotWrite = sym memory ∙ at in cc
-  target_unprinted (Some name) (inr (inr read)) at = subst (IsReadFault wanted.fences.image) at read
+]
 
-  pub target_is_not_write : IsTargetFault wanted.fences fault → fault ≡ CannotWrite → ⊥
-  target_is_not_write is at = target_unprinted wanted.fences.write is at
+-- they come behind the text
+unmade_late : (file : Option Name) (fault : Fault) → IsNamedBy file IsFolderFault fault → ComesBeforeScripts fault → ⊥
+unmade_late file fault is early = elim (unmade file fault is) [
+  | inl made ↦ subst ComesBeforeScripts made.2 early
+  | inr memory ↦ subst ComesBeforeScripts memory early
+]
+
+pub kept_late : (fences : Fences) (fault : Fault) → IsKeepingFault fences fault → ComesBeforeScripts fault → ⊥
+kept_late fences fault (inl is) early = unmade_late fences.write fault is early
+kept_late fences fault (inr is) early = unmade_late fences.scripts fault is early
+
+pub memory_late : (fault : Fault) → fault ≡ OutOfMemory → ComesBeforeScripts fault → ⊥
+memory_late fault is early = subst ComesBeforeScripts is early
 
 -- before the text nothing was printed
 pub unbegun : (fault : Fault) (old new : Option (List ℕ)) (Has : (List ℕ → Type 0) → Type 0) → (fault ≡ CannotWrite → ⊥) → new ≡ old → LeavesPart fault old new Has
@@ -195,31 +205,47 @@ of_file held before wanted config image symbols addresses names text allowance i
     }
 
 -- what is printed of it
-module _ (held : Contents) (wanted : Wanted) (names : List WordName) (named : names ≡ names_of wanted.words.items) (symbols : List Named) (allowance : Allowance) (image : Initial) (file : IsOfFile held wanted symbols allowance image) (old new : Option (List ℕ)) where
+module _ (held : Contents) (wanted : Wanted) (names : List WordName) (named_so : names ≡ names_of wanted.words.items) (symbols : List Named) (allowance : Allowance) (image : Initial) (file : IsOfFile held wanted symbols allowance image) (old new : Option (List ℕ)) where
   pub has : (P : List ℕ → Type 0) → P (told_text names symbols allowance) → AuditHas held wanted P
-  has P so = record { symbols = symbols; allowance = allowance; image = image; of_file = file; of_text = subst (λ n. P (told_text n symbols allowance)) named so }
+  has P so = record { symbols = symbols; allowance = allowance; image = image; of_file = file; of_text = subst (λ n. P (told_text n symbols allowance)) named_so so }
 
   pub part_told : (fault : Fault) → (fault ≡ CannotWrite) ⊎ (fault ≡ OutOfMemory) → Begins old new (told_text names symbols allowance) → LeavesPart fault old new (AuditHas held wanted)
   part_told fault is so = output_left fault old new (AuditHas held wanted) is (has (Begins old new) so)
 
-  -- the file for the program comes behind it
-  pub all_told : (fault : Fault) → IsNamedBy wanted.fences.write IsFolderFault fault → Appends old new (told_text names symbols allowance) → LeavesPart fault old new (AuditHas held wanted)
-  all_told fault is so = elim (unkept wanted.fences.write fault is) [
+  unmade_told : (file : Option Name) (fault : Fault) → IsNamedBy file IsFolderFault fault → Appends old new (told_text names symbols allowance) → LeavesPart fault old new (AuditHas held wanted)
+  unmade_told file fault is so = elim (unmade file fault is) [
     | inl at ↦ subst (λ f. LeavesPart f old new (AuditHas held wanted)) (sym at.2) (inr (has (Appends old new) so))
     | inr at ↦ subst (λ f. LeavesPart f old new (AuditHas held wanted)) (sym at) (inr (has (Begins old new) (all_of old new (told_text names symbols allowance) so)))
   ]
 
-  pub whole_told : (left : Contents) (judgement : Judgement) (target : Option Target) → Appends old new (told_text names symbols allowance) → judgement ≡ judgement_of allowance → IsTarget held wanted.fences target
-      → IsProgramKept held left wanted.fences image allowance wanted.fences.write → SparesOthers (IsProgramFile wanted.fences.write) held left → IsAuditTold held left wanted judgement old new
-  whole_told left judgement target so is aimed kept spared = record {
+  -- the files come behind it
+  pub all_told : (fault : Fault) → IsKeepingFault wanted.fences fault → Appends old new (told_text names symbols allowance) → LeavesPart fault old new (AuditHas held wanted)
+  all_told fault (inl is) so = unmade_told wanted.fences.write fault is so
+  all_told fault (inr is) so = unmade_told wanted.fences.scripts fault is so
+
+  -- and want of memory, too
+  pub memory_told : (fault : Fault) → fault ≡ OutOfMemory → Appends old new (told_text names symbols allowance) → LeavesPart fault old new (AuditHas held wanted)
+  memory_told fault is so = subst (λ f. LeavesPart f old new (AuditHas held wanted)) (sym is) (inr (has (Begins old new) (all_of old new (told_text names symbols allowance) so)))
+
+  pub whole_told : (left : Contents) (judgement : Judgement) (file_bytes : List ℕ) (config : Config) → Appends old new (told_text names symbols allowance) → judgement ≡ judgement_of allowance → HadMemory allowance → HoldsBytes held wanted.fences.image.now file_bytes
+      → IfSome wanted.fences.write (λ name. IsUnread wanted.fences name.now) → IsProgramKept held left wanted.fences image file_bytes allowance wanted.fences.write
+      → HasName wanted.fences.scripts → IfSome wanted.fences.scripts (λ folder. AllSpare wanted.fences image folder.now) → (inside : IsInside wanted.fences.machine) × (config ≡ config_named wanted.fences.machine inside)
+      → AreShownFor left wanted.fences config image file_bytes allowance wanted.fences.scripts → SparesOthers (IsFencesFile wanted.fences) held left → IsAuditTold held left wanted judgement old new
+  whole_told left judgement file_bytes config so is whole bytes unread kept named spare config_is shown spared = record {
     symbols = symbols;
     allowance = allowance;
     image = image;
     of_file = file;
-    printed = subst (λ n. Appends old new (told_text n symbols allowance)) named so;
+    printed = subst (λ n. Appends old new (told_text n symbols allowance)) named_so so;
     judged = is;
-    unread = unread_at held wanted.fences target aimed;
+    whole = whole;
+    file = file_bytes;
+    bytes = bytes;
+    unread = unread;
     kept = kept;
+    named = named;
+    spare = spare;
+    shown = (config_is.0, subst (λ c. AreShownFor left wanted.fences c image file_bytes allowance wanted.fences.scripts) config_is.1 shown);
     spared = spared;
   }
 

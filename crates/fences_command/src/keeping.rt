@@ -1,12 +1,12 @@
 //! The program with the orderings that are enough, as a file.
 
-ghost use Rattle.std.specs.Prelude.{◌≡◌, ◌≢◌, IfErr, IfOk, IfSome, List, OnOk, option_map, ℕ};
+ghost use Rattle.std.specs.Prelude.{◌≡◌, ◌≢◌, IfErr, IfOk, IfSome, List, OnOk, Ok, option_map, ℕ};
 ghost use Rattle.command_files.specs.Allowing.{IsNamedBy};
 ghost use Rattle.fences_command.specs.Keeping as spec;
 ghost use Rattle.search_files.specs.Faults.{IsFolderFault};
 ghost use Rattle.search_files.specs.Folders.{SparesOthers};
 
-use command_files::{Fault, Files, check_writable, contents, remark, unmade};
+use command_files::{Fault, Files, check_writable, remark, unmade};
 use command_settings::Fences;
 use elf_loader::Image;
 use fence_audit::{Allowance, Answer, is_whole, search_in};
@@ -21,34 +21,24 @@ const UNDECIDED: &str = "nothing was written for --write: no search says what is
 const NO_ROOM: &str =
     "the program's file hasn't the bytes of these words, or has them for two addresses or in its headers";
 
-/// The file into which a program is to be written.
-#[derive(Drop)]
-pub(crate) struct Target<'a> {
-    pub name: &'a str,
-    /// Of the program's own file.
-    pub bytes: Vec<u8>,
-}
-
-/// The file that was named for the program, if one was: where it can be made, and isn't the program's own, nor the one of
-/// what is allowed, by whatever name, nor the one that standard output goes into.
-pub(crate) fn target_of<'a, F: Files>(
+/// Refuses the file that was named for the program, if one was, where it can't be made, or is the program's own, or the one
+/// of what is allowed, by whatever name, or the one that standard output goes into.
+pub(crate) fn check_target<'a, F: Files>(
     alloc: Global,
     files: &mut F,
     wanted: Fences<'a>,
-) -> Result<Option<Target<'a>>, Fault<'a>>
-    ensures target { IfOk result (spec.IsTarget (F.held files.old) wanted.entry) }
-    ensures told { IfErr result (spec.IsTargetFault wanted.entry) }
+) -> Result<(), Fault<'a>>
+    ensures unread { OnOk result (IfSome wanted.entry.write (λ name. spec.IsUnread wanted.entry name.now)) }
+    ensures told { IfErr result (IsNamedBy wanted.entry.write IsFolderFault) }
     ensures stays { F.held files.new ≡ F.held files.old }
 {
     let Some(name) = wanted.write else {
-        return Ok(None);
+        return Ok(());
     };
     spare(alloc, files, name, wanted.image)?;
     spare_allowed(alloc, files, name, wanted.allow)?;
     spare_output(alloc, files, name)?;
-    check_writable(alloc, files, name)?;
-    let bytes = contents(alloc, files, wanted.image)?;
-    Ok(Some(Target { name, bytes }))
+    check_writable(alloc, files, name)
 }
 
 /// Refuses the name of a file that is read, also by another name.
@@ -107,7 +97,7 @@ fn spare_output<'a, F: Files>(alloc: Global, files: &mut F, name: &'a str) -> Re
     Ok(())
 }
 
-fn format_of(is_raw: bool) -> Format
+pub(crate) fn format_of(is_raw: bool) -> Format
     ensures { result ≡ spec.format_of is_raw }
 {
     if is_raw { Format::Words } else { Format::Elf }
@@ -133,23 +123,30 @@ pub(crate) fn keep_program<'a, F: Files>(
     alloc: Global,
     files: &mut F,
     wanted: Fences<'a>,
-    target: &Option<Target<'a>>,
     image: &Image,
+    file: &[u8],
     allowance: &Allowance,
 ) -> Result<(), Fault<'a>>
-    requires { spec.IsTarget (F.held files.old) wanted target.now }
-    ensures kept { OnOk result (spec.IsProgramKept (F.held files.old) (F.held files.new) wanted.entry image.now allowance.now wanted.entry.write) }
+    ensures kept { OnOk result (spec.IsProgramKept (F.held files.old) (F.held files.new) wanted.entry image.now file.now allowance.now wanted.entry.write) }
     ensures told { IfErr result (IsNamedBy wanted.entry.write IsFolderFault) }
     ensures spared { SparesOthers (spec.IsProgramFile wanted.entry.write) (F.held files.old) (F.held files.new) }
 {
-    let Some(target) = target else {
+    let Some(name) = wanted.write else {
         return Ok(());
     };
     let Some(words) = enough_words(allowance) else {
         remark(alloc, files, UNDECIDED);
         return Ok(());
     };
-    write_program(alloc, files, format_of(wanted.raw), target, image, words)
+    write_program(
+        alloc,
+        files,
+        format_of(wanted.raw),
+        name,
+        file,
+        image,
+        words,
+    )
 }
 
 /// Writes the program with these words.
@@ -157,24 +154,44 @@ fn write_program<'a, F: Files>(
     alloc: Global,
     files: &mut F,
     format: Format,
-    target: &Target<'a>,
+    name: &'a str,
+    file: &[u8],
     image: &Image,
     words: &[Patch],
 ) -> Result<(), Fault<'a>>
-    ensures written { OnOk result (spec.IsWritten (F.held files.new) format target.now.bytes.items image.now words.now target.now.name.now) }
-    ensures told { IfErr result (IsFolderFault target.now.name) }
-    ensures others { (other : List ℕ) → other ≢ target.now.name.now → F.held files.new other ≡ F.held files.old other }
+    ensures written { OnOk result (spec.IsWritten (F.held files.new) format file.now image.now words.now name.entry.now) }
+    ensures told { IfErr result (IsFolderFault name.entry) }
+    ensures others { (other : List ℕ) → other ≢ name.entry.now → F.held files.new other ≡ F.held files.old other }
 {
-    let made = match written(alloc, format, &target.bytes, image, words) {
-        Ok(Some(made)) => made,
+    let made = changed(alloc, files, format, name, file, image, words)?;
+    match files.write(name, &made) {
+        Ok(()) => Ok(()),
+        Err(error) => Err(unmade(alloc, files, name, error)),
+    }
+}
+
+/// The file's bytes with these words. Where it has no room for them, the file of this name can't be made, and why is
+/// remarked.
+pub(crate) fn changed<'a, F: Files>(
+    alloc: Global,
+    files: &mut F,
+    format: Format,
+    name: &'a str,
+    file: &[u8],
+    image: &Image,
+    words: &[Patch],
+) -> Result<Vec<u8>, Fault<'a>>
+    ensures bytes { IfOk result (λ made. made.items ≡ spec.changed format file.now words.now) }
+    ensures loads { IfOk result (λ made. spec.LoadsChanged format file.now image.now words.now) }
+    ensures told { IfErr result (IsFolderFault name.entry) }
+    ensures stays { F.held files.new ≡ F.held files.old }
+{
+    match written(alloc, format, file, image, words) {
+        Ok(Some(made)) => Ok(made),
         Ok(None) => {
             remark(alloc, files, NO_ROOM);
-            return Err(Fault::CannotMake { file: target.name });
+            Err(Fault::CannotMake { file: name })
         }
-        Err(_) => return Err(Fault::OutOfMemory),
-    };
-    match files.write(target.name, &made) {
-        Ok(()) => Ok(()),
-        Err(error) => Err(unmade(alloc, files, target.name, error)),
+        Err(_) => Err(Fault::OutOfMemory),
     }
 }

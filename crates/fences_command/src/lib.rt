@@ -3,5 +3,8 @@
 
 mod fencing;
 mod keeping;
+mod needed_runs;
+mod program;
+mod telling;
 
 pub use fencing::fences_files;

@@ -12,7 +12,11 @@ use state_search::Unwatched;
 use std::alloc::{AllocError, Global};
 use std::process::Abort;
 use std::test::Fail;
+use std::thread::Threads;
 use tl_types::LineSize;
+
+/// Some searches go side by side.
+const THREADS: usize = 3;
 
 fn image_of(alloc: Global, words: &[u32]) -> Result<Image, Fail> {
     let size = size_of_kib(4).ok_or("a size")?;
@@ -24,6 +28,7 @@ fn image_of(alloc: Global, words: &[u32]) -> Result<Image, Fail> {
 }
 
 fn audit_in(
+    rt: &(impl Threads + Sync),
     alloc: Global,
     image: &Image,
     config: Config,
@@ -39,12 +44,13 @@ fn audit_in(
         window: 16,
         limit,
         world,
+        threads: THREADS,
     };
-    audit_program(alloc, question, &Unwatched)
+    audit_program(rt, alloc, question, &Unwatched)
 }
 
 fn audit_of(
-    alloc: Global,
+    rt: &(impl AllocGlobal + Threads + Sync),
     words: &[u32],
     harts: u32,
     model: MemoryModel,
@@ -53,13 +59,19 @@ fn audit_of(
 ) -> Result<Audit, Fail>
     requires { 0 < limit }
 {
+    let alloc = rt.alloc();
     let image = image_of(alloc, words)?;
     let config = Config::new(harts, 1, 2, LineSize::Bytes16, model).ok_or("limits")?;
-    Ok(audit_in(alloc, &image, config, limit, world)?)
+    Ok(audit_in(rt, alloc, &image, config, limit, world)?)
 }
 
 /// What the program lacks of two harts for the outcomes that a text allows.
-fn missing_of(alloc: Global, words: &[u32], text: &[u8]) -> Result<Missing, Fail> {
+fn missing_of(
+    rt: &(impl AllocGlobal + Threads + Sync),
+    words: &[u32],
+    text: &[u8],
+) -> Result<Missing, Fail> {
+    let alloc = rt.alloc();
     let image = image_of(alloc, words)?;
     let config = Config::new(2, 1, 2, LineSize::Bytes16, MemoryModel::Rvwmo).ok_or("limits")?;
     let question = Question {
@@ -69,9 +81,10 @@ fn missing_of(alloc: Global, words: &[u32], text: &[u8]) -> Result<Missing, Fail
         window: 16,
         limit: 100_000,
         world: World::Model,
+        threads: THREADS,
     };
     let allowed = Allowed::new(alloc, text)?;
-    match audit_allowed(alloc, question, &[], &allowed, &Unwatched)? {
+    match audit_allowed(rt, alloc, question, &[], &allowed, &Unwatched)? {
         Allowance::Broken(missing) => Ok(missing),
         Allowance::Kept(_) => Err("an outcome that isn't allowed".into()),
     }
@@ -88,14 +101,14 @@ fn leaves(last: &[Patch], words: &[u32]) -> bool {
 
 /// Ends the test unless so many programs are searched behind the first, and these words are left.
 fn ends_with(
-    rt: &(impl Abort + AllocGlobal),
+    rt: &(impl Abort + AllocGlobal + Threads + Sync),
     words: &[u32],
     harts: u32,
     model: MemoryModel,
     searches: usize,
     last: &[u32],
 ) -> Result<(), Fail> {
-    let audit = audit_of(rt.alloc(), words, harts, model, 100_000, World::Model)?;
+    let audit = audit_of(rt, words, harts, model, 100_000, World::Model)?;
     assert!(rt; is_whole(&audit.known));
     assert_eq!(rt; audit.searches.len(), searches);
     assert!(rt; leaves(&audit.last, last));
@@ -205,7 +218,7 @@ fn a_lock_by_amoswap(rt: HostRuntime) -> Result<(), Fail> {
 // A search of one state decides nothing.
 #[test]
 fn a_bound_of_the_first_search(rt: HostRuntime) -> Result<(), Fail> {
-    let audit = audit_of(rt.alloc(), &MESSAGE, 2, MemoryModel::Rvwmo, 1, World::Model)?;
+    let audit = audit_of(&rt, &MESSAGE, 2, MemoryModel::Rvwmo, 1, World::Model)?;
     assert!(&rt; !is_whole(&audit.known));
     assert_eq!(&rt; audit.searches.len(), 0);
     Ok(())
@@ -243,7 +256,7 @@ static TICKET: [u32; 22] = [
 fn a_ticket_lock_without_a_fence(rt: HostRuntime) -> Result<(), Fail> {
     let turns =
         b"hart 0: exit 0 output 1   hart 1: exit 0 output 2\nhart 0: exit 0 output 2   hart 1: exit 0 output 1\n";
-    let missing = missing_of(rt.alloc(), &TICKET, turns)?;
+    let missing = missing_of(&rt, &TICKET, turns)?;
     assert_eq!(&rt; missing.place, 0);
     assert_eq!(&rt; missing.searches.len(), 6);
     assert!(&rt; leaves(&missing.last, &[0x01c2_aeaf, 0x0220_000f, 0x0310_000f]));
@@ -255,7 +268,7 @@ fn a_ticket_lock_without_a_fence(rt: HostRuntime) -> Result<(), Fail> {
 #[test]
 fn a_message_on_this_machine(rt: HostRuntime) -> Result<(), Fail> {
     let model = MemoryModel::Rvwmo;
-    let audit = audit_of(rt.alloc(), &MESSAGE, 2, model, 100_000, World::Machine)?;
+    let audit = audit_of(&rt, &MESSAGE, 2, model, 100_000, World::Machine)?;
     assert!(&rt; is_whole(&audit.known));
     assert_eq!(&rt; audit.searches.len(), 3);
     assert!(&rt; leaves(&audit.last, &[0x0110_000f, NOP]));
@@ -265,13 +278,13 @@ fn a_message_on_this_machine(rt: HostRuntime) -> Result<(), Fail> {
 /// Ends the test unless the program has so many orderings, and a hart may come to so many of them, each of which a search
 /// leaves out.
 fn meets(
-    rt: &(impl Abort + AllocGlobal),
+    rt: &(impl Abort + AllocGlobal + Threads + Sync),
     words: &[u32],
     orderings: usize,
     met: usize,
 ) -> Result<(), Fail> {
     let model = MemoryModel::Rvwmo;
-    let audit = audit_of(rt.alloc(), words, 1, model, 100_000, World::Model)?;
+    let audit = audit_of(rt, words, 1, model, 100_000, World::Model)?;
     assert!(rt; is_whole(&audit.known));
     assert_eq!(rt; audit.orderings.len(), orderings);
     assert_eq!(rt; audit.met.len(), met);

@@ -8,7 +8,7 @@ use Rattle.image_orderings.specs.declared.replacing.Patch.{Patch}
 use Rattle.fence_audit.proofs.allowing.missing_of.Goals as goal
 
 pub addition-requires-clause-of_image : goal.addition-requires-clause-of_image
-addition-requires-clause-of_image g c =
+addition-requires-clause-of_image g c κs within =
     let question = c.args.question in
     let own : ArePatchesOf question c.deref-2.result.now = subst (ArePatchesOf question) (sym c.deref-2.ensures.value) c.in_ok-own.ensures.of_image in
     subst (ArePatchesOf question) (sym c.deref-4.ensures.value) (c.in_ok-most.ensures.of_image question.image.now own)

@@ -28,7 +28,7 @@ returns-then-not-whole g c =
     }
 
 pub reduction-requires-clause-of_image : goal.reduction-requires-clause-of_image
-reduction-requires-clause-of_image g c = subst (ArePatchesOf c.args.question) (sym c.deref-4.ensures.value) c.in_ok-own.ensures.of_image
+reduction-requires-clause-of_image g c κs within = subst (ArePatchesOf c.args.question) (sym c.deref-4.ensures.value) c.in_ok-own.ensures.of_image
 
 pub returns : goal.returns
 returns g c =

@@ -6,7 +6,7 @@ use Rattle.image_orderings.specs.Forms.{IsVariant}
 use Rattle.fence_audit.proofs.searches.Asking.milder_at.Goals as goal
 
 pub replaced_at-requires-clause-variants : goal.replaced_at-requires-clause-variants
-replaced_at-requires-clause-variants g c =
+replaced_at-requires-clause-variants g c κs within =
     let question = c.args.self.now.question in
     let image = question.image.now in
     let before : ArePatchesOf question c.deref.result.now = subst (ArePatchesOf question) (sym c.deref.ensures.value) c.requires.of_image in

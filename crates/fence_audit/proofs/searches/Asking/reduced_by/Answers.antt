@@ -6,7 +6,7 @@ use Rattle.image_orderings.specs.declared.replacing.Patch.{Patch}
 use Rattle.fence_audit.proofs.searches.Asking.reduced_by.Goals as goal
 
 pub ask-requires-clause-of_image : goal.ask-requires-clause-of_image
-ask-requires-clause-of_image g c =
+ask-requires-clause-of_image g c κs within =
     let question = c.args.self.now.question in
     let before : ArePatchesOf question c.deref.result.now = subst (ArePatchesOf question) (sym c.deref.ensures.value) c.requires.of_image in
     subst (ArePatchesOf question) (sym c.deref-2.ensures.value) (c.in_ok-tried.ensures.of_image question.image.now before)

@@ -9,7 +9,7 @@ use Rattle.image_orderings.specs.declared.replacing.Patch.{Patch}
 use Rattle.fence_audit.proofs.searches.Asking.replaced_at.Goals as goal
 
 pub ask-requires-clause-of_image : goal.ask-requires-clause-of_image
-ask-requires-clause-of_image g c =
+ask-requires-clause-of_image g c κs within =
     let question = c.args.self.now.question in
     let before : ArePatchesOf question c.deref.result.now = subst (ArePatchesOf question) (sym c.deref.ensures.value) c.loop-form.invariant.of_image in
     let variant = All-get_or (IsVariant (word_at question.image.now c.args.address)) c.args.words.now c.loop-form.form-index 0 c.loop-form-test.true c.requires.variants in

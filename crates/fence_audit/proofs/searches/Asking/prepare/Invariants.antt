@@ -1,0 +1,5 @@
+use Rattle.fence_audit.specs.SideBySide.{ArePrograms}
+use Rattle.fence_audit.proofs.searches.Asking.prepare.Given as goal
+
+abbrev pub invariant-loop-ordering : goal.invariant-loop-ordering
+invariant-loop-ordering g l = ArePrograms l.self.question l.programs.items
