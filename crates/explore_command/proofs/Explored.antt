@@ -65,7 +65,7 @@ module _ (held : Contents) (wanted : Explore) (config : Config) (image : Initial
 
   pub whole : (old new : Option (List ℕ)) (left : Contents) (judgement : Judgement) → Appends old new (exploration_text [] symbols found) → HasName wanted.scripts → IfSome wanted.scripts (λ folder. AreKept left config wanted.machine.memory folder.now found)
       → SparesOthers (IsInNamed wanted.scripts (IsScriptOf (length found.outcomes.items) (length found.failures.items) found.stuck)) held left
-      → IsJudged held wanted.allow (map (λ f. end_text [] (outcome_of f)) found.outcomes.items) (exploration_fails wanted.fail_on found) judgement → (judgement ≡ Allowed → found.extent ≢ extent.OutOfMemory) → EndsJudged wanted.first judgement found → IsExplorationTold held left wanted judgement old new
+      → IsJudged held wanted.allow (map (λ f. end_text [] (outcome_of f)) found.outcomes.items) (exploration_fails wanted.fail_on found) judgement → (judgement ≡ Allowed → found.extent ≢ extent.OutOfMemory) → EndsJudged wanted.first wanted.seconds judgement found → IsExplorationTold held left wanted judgement old new
   whole old new left judgement told named kept spares by memory ends = record {
     image = image;
     symbols = symbols;

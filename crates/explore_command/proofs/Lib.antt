@@ -11,3 +11,4 @@ mod Readable
 mod Searched
 pub mod NeverStops
 pub mod Sought
+mod Ways

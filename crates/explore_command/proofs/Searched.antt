@@ -58,7 +58,7 @@ module _ (held : Contents) (wanted : Explore) (words : List Name) (window : ℕ)
   has P so = record { architecture = found; of_file = of_file; of_text = subst (λ (n : List WordName). P (architecture_text n found)) named so }
 
   pub whole : (old new : Option (List ℕ)) (left : Contents) (judgement : Judgement) (text : Option (List ℕ)) → Appends old new (architecture_text names found) → HasName wanted.scripts → IfSome wanted.scripts (λ folder. AreWaysKept left config wanted.machine.memory folder.now 1 found.outcomes.items)
-      → EndsUnder wanted.first names text found → SparesOthers (IsInNamed wanted.scripts (IsWayFile 1 found.outcomes.items)) held left
+      → EndsUnder wanted.first wanted.seconds names text found → SparesOthers (IsInNamed wanted.scripts (IsWayFile 1 found.outcomes.items)) held left
       → IsAllowFile held wanted.allow text → judgement ≡ judgement_of_lines text (map (λ o. end_text names (end_of o)) found.outcomes.items) (search_fails wanted.fail_on found)
       → (judgement ≡ Allowed → (found.machine ≢ extent.OutOfMemory) × (found.reach ≢ reach.OutOfMemory)) → IsSearched held left wanted words window judgement old new
   unfolding of_file
@@ -69,7 +69,7 @@ module _ (held : Contents) (wanted : Explore) (words : List Name) (window : ℕ)
     named = folder;
     kept = subst (λ (c : Config). IfSome wanted.scripts (λ folder. AreWaysKept left c wanted.machine.memory folder.now 1 found.outcomes.items)) config_is kept;
     first = λ first. (ends.first first).0;
-    untimed = ends.untimed;
+    timed = ends.timed;
     spared = spares;
     judged = judged_of end_of held wanted.allow text names (names_of words) found.outcomes.items (search_fails wanted.fail_on found) judgement named read by;
     whole = memory;
@@ -96,11 +96,11 @@ found_under image config addresses window limit (Ok a) shown machine alone allow
 found_under image config addresses window limit (Err error) shown machine alone allowed opens bounded limited met order within full model visited width = tt
 
 -- what ended it
-pub ends_under : (is_asked asked : Bool) (names called : List WordName) (text : Option (List ℕ)) (allowed : Option Lines) → asked ≡ is_asked → called ≡ names → ((line : List ℕ) → IsRefusedBy allowed line → IsRefused text line)
+pub ends_under : (is_asked asked : Bool) (seconds waits : ℕ) (names called : List WordName) (text : Option (List ℕ)) (allowed : Option Lines) → asked ≡ is_asked → waits ≡ seconds → called ≡ names → ((line : List ℕ) → IsRefusedBy allowed line → IsRefused text line)
     → (r : Result Architecture AllocError)
-    → IfOk r (λ a. a.reach ≡ reach.Ended First → HasSought ⊥ (λ end. IsSoughtBy asked called allowed end ⊎ IsSoughtBy asked called allowed end) (ends_of a.outcomes.items)) → IfOk r (λ a. a.reach ≡ reach.Ended Time → ⊥ ⊎ ⊥)
-    → IfOk r (EndsUnder is_asked names text)
-ends_under is_asked asked names called text allowed same known reads (Ok a) first timed = record {
+    → IfOk r (λ a. a.reach ≡ reach.Ended First → HasSought ⊥ (λ end. IsSoughtBy asked called allowed end ⊎ IsSoughtBy asked called allowed end) (ends_of a.outcomes.items)) → IfOk r (λ a. a.reach ≡ reach.Ended Time → (0 < waits) ⊎ (0 < waits))
+    → IfOk r (EndsUnder is_asked seconds names text)
+ends_under is_asked asked seconds waits names called text allowed same lasts known reads (Ok a) first timed = record {
   first = λ ended. elim (first ended) [
     | inl never ↦ absurd never
     | inr (end, there, either) ↦
@@ -116,10 +116,10 @@ ends_under is_asked asked names called text allowed same known reads (Ok a) firs
           ),
         )
   ];
-  untimed = λ ended. elim (timed ended) [ inl never ↦ never | inr never ↦ never ];
+  timed = λ ended. subst (λ (n : ℕ). 0 < n) lasts (one (timed ended));
 }
   where
     one : {X : Type 0} → X ⊎ X → X
     one (inl x) = x
     one (inr x) = x
-ends_under is_asked asked names called text allowed same known reads (Err error) first timed = tt
+ends_under is_asked asked seconds waits names called text allowed same lasts known reads (Err error) first timed = tt

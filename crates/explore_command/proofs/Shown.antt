@@ -84,7 +84,7 @@ module _ (held : Contents) (show : Show) (config : Config) (image : Initial) (sy
   -- all of it was done
   pub shown : (old new : Option (List ℕ)) (left : Contents) (judgement : Judgement) (text : Option (List ℕ)) → Appends old new (exploration_text names symbols found) → HasName show.explore.scripts → IfSome show.explore.scripts (λ folder. AreKept left config show.explore.machine.memory folder.now found)
       → SparesOthers (IsInNamed show.explore.scripts (IsScriptOf (length found.outcomes.items) (length found.failures.items) found.stuck)) held left → IsAllowFile held show.explore.allow text
-      → judgement ≡ judgement_of_lines text (map (λ f. end_text names (outcome_of f)) found.outcomes.items) (exploration_fails show.explore.fail_on found) → (judgement ≡ Allowed → found.extent ≢ extent.OutOfMemory) → EndsBy show.explore.first names text found → AreWordsShown held left show judgement old new
+      → judgement ≡ judgement_of_lines text (map (λ f. end_text names (outcome_of f)) found.outcomes.items) (exploration_fails show.explore.fail_on found) → (judgement ≡ Allowed → found.extent ≢ extent.OutOfMemory) → EndsBy show.explore.first show.explore.seconds names text found → AreWordsShown held left show judgement old new
   unfolding of_file
   shown old new left judgement text printed folder kept spares read by whole ends = record {
     exploration = found;
@@ -95,7 +95,7 @@ module _ (held : Contents) (show : Show) (config : Config) (image : Initial) (sy
     spared = spares;
     judged = judged_of outcome_of held show.explore.allow text names (names_of show.words.items) found.outcomes.items (exploration_fails show.explore.fail_on found) judgement names_are read by;
     whole = whole;
-    ends = ends_judged names show.explore.first text (exploration_fails show.explore.fail_on found) found judgement by ends;
+    ends = ends_judged names show.explore.first show.explore.seconds text (exploration_fails show.explore.fail_on found) found judgement by ends;
   }
 
 pub show_told : (held : Contents) (show : Show) (fault : Fault) → IsExploreFault held show.explore fault ⊎ HasUnshown held show.explore show.words.items fault → IsShowFault held show fault

@@ -36,8 +36,8 @@ module _ (names : List WordName) where
   not_all (Some text) found o i low at refuses = one_refused text found o i low at refuses
 
   -- so what ended it is judged so
-  pub ends_judged : (is_asked : Bool) (text : Option (List ℕ)) (fails : List ℕ) (found : Exploration) (judgement : Judgement) → judgement ≡ judgement_of_lines text (map (λ f. end_text names (outcome_of f)) found.outcomes.items) fails → EndsBy is_asked names text found → EndsJudged is_asked judgement found
-  ends_judged is_asked text fails found judgement is by = record {
+  pub ends_judged : (is_asked : Bool) (seconds : ℕ) (text : Option (List ℕ)) (fails : List ℕ) (found : Exploration) (judgement : Judgement) → judgement ≡ judgement_of_lines text (map (λ f. end_text names (outcome_of f)) found.outcomes.items) fails → EndsBy is_asked seconds names text found → EndsJudged is_asked seconds judgement found
+  ends_judged is_asked seconds text fails found judgement is by = record {
     first = λ met.
         let (asked, why) = by.first met in (
           asked,
@@ -46,17 +46,17 @@ module _ (names : List WordName) where
             | inr (o, (i, low, at), refuses) ↦ inr (is ∙ ap (λ (b : Bool). if b && (length fails == 0) then Allowed else NotAllowed) (not_all text found.outcomes.items o i low at refuses))
           ],
         );
-    untimed = by.untimed;
+    timed = by.timed;
   }
 
 -- what is said of it, fact by fact
-pub ends_by : (is_asked asked : Bool) (names called : List WordName) (text : Option (List ℕ)) (Refuses : List ℕ → Type 0) → asked ≡ is_asked → called ≡ names → ((line : List ℕ) → Refuses line → IsRefused text line)
-    → (r : Result Exploration AllocError) → IfOk r (λ e. e.extent ≡ Ended First → TellsSought (asked ≡ true) (λ o. (asked ≡ true) × Refuses (end_text called o)) e) → IfOk r (λ e. e.extent ≡ Ended Time → ⊥) → IfOk r (EndsBy is_asked names text)
-ends_by is_asked asked names called text Refuses same known reads (Ok e) first untimed = record {
+pub ends_by : (is_asked asked : Bool) (seconds waits : ℕ) (names called : List WordName) (text : Option (List ℕ)) (Refuses : List ℕ → Type 0) → asked ≡ is_asked → waits ≡ seconds → called ≡ names → ((line : List ℕ) → Refuses line → IsRefused text line)
+    → (r : Result Exploration AllocError) → IfOk r (λ e. e.extent ≡ Ended First → TellsSought (asked ≡ true) (λ o. (asked ≡ true) × Refuses (end_text called o)) e) → IfOk r (λ e. e.extent ≡ Ended Time → 0 < waits) → IfOk r (EndsBy is_asked seconds names text)
+ends_by is_asked asked seconds waits names called text Refuses same lasts known reads (Ok e) first timed = record {
   first = λ met. elim (first met) [
     | inl (is, stops) ↦ (sym same ∙ is, inl stops)
     | inr (o, told, (is, refuses)) ↦ (sym same ∙ is, inr (o, told, subst (λ (n : List WordName). IsRefused text (end_text n o)) known (reads (end_text called o) refuses)))
   ];
-  untimed = untimed;
+  timed = λ ended. subst (λ (n : ℕ). 0 < n) lasts (timed ended);
 }
-ends_by is_asked asked names called text Refuses same known reads (Err error) first untimed = tt
+ends_by is_asked asked seconds waits names called text Refuses same lasts known reads (Err error) first timed = tt

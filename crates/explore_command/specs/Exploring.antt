@@ -73,7 +73,7 @@ pub record IsExplorationTold (held left : Contents) (wanted : Explore) (judgemen
   pub spared : SparesOthers (IsInNamed wanted.scripts (IsScriptOf (length exploration.outcomes.items) (length exploration.failures.items) exploration.stuck)) held left
   pub judged : IsJudged held wanted.allow (map (λ f. end_text [] (outcome_of f)) exploration.outcomes.items) (exploration_fails wanted.fail_on exploration) judgement
   pub whole : judgement ≡ Allowed → exploration.extent ≢ extent.OutOfMemory
-  pub ends : EndsJudged wanted.first judgement exploration
+  pub ends : EndsJudged wanted.first wanted.seconds judgement exploration
 
 -- P holds of the text of what was found of the image in the file
 pub record ExplorationHas (held : Contents) (wanted : Explore) (P : List ℕ → Type 0) : Type 0 where

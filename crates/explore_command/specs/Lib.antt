@@ -12,3 +12,4 @@ pub mod Sparing
 pub mod Sought
 pub use Rattle.exploration_text.specs.declared.wording.WordName
 pub use Rattle.search_files.specs.Targets
+pub mod Until

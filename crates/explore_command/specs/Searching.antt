@@ -81,7 +81,7 @@ pub record IsSearched (held left : Contents) (wanted : Explore) (words : List Na
   pub named : HasName wanted.scripts
   pub kept : IfSome wanted.scripts (λ folder. AreWaysKept left (config_named wanted.machine of_file.inside) wanted.machine.memory folder.now 1 architecture.outcomes.items)
   pub first : architecture.reach ≡ reach.Ended First → wanted.first ≡ true
-  pub untimed : architecture.reach ≢ reach.Ended Time
+  pub timed : architecture.reach ≡ reach.Ended Time → 0 < wanted.seconds
   pub spared : SparesOthers (IsInNamed wanted.scripts (IsWayFile 1 architecture.outcomes.items)) held left
   pub judged : IsJudged held wanted.allow (map (λ o. end_text (names_of words) (end_of o)) architecture.outcomes.items) (search_fails wanted.fail_on architecture) judgement
   pub whole : judgement ≡ Allowed → (architecture.machine ≢ extent.OutOfMemory) × (architecture.reach ≢ reach.OutOfMemory)

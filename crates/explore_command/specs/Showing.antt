@@ -43,7 +43,7 @@ pub record AreWordsShown (held left : Contents) (show : Show) (judgement : Judge
   pub spared : SparesOthers (IsInNamed show.explore.scripts (IsScriptOf (length exploration.outcomes.items) (length exploration.failures.items) exploration.stuck)) held left
   pub judged : IsJudged held show.explore.allow (map (λ f. end_text (names_of show.words.items) (outcome_of f)) exploration.outcomes.items) (exploration_fails show.explore.fail_on exploration) judgement
   pub whole : judgement ≡ Allowed → exploration.extent ≢ extent.OutOfMemory
-  pub ends : EndsJudged show.explore.first judgement exploration
+  pub ends : EndsJudged show.explore.first show.explore.seconds judgement exploration
 
 -- P holds of the text of what was found
 pub record WordsHave (held : Contents) (show : Show) (P : List ℕ → Type 0) : Type 0 where

@@ -1,5 +1,5 @@
 -- What an exploration that is to end at the first of what it finds seeks, and what it says where it ended so.
-use Rattle.std.specs.Prelude.{ℕ, ◌≡◌, ◌≢◌, ◌⊎◌, ◌<◌, Bool, true, false, List, Option, None, Some, Contains, length}
+use Rattle.std.specs.Prelude.{ℕ, ◌≡◌, ◌⊎◌, ◌<◌, Bool, true, false, List, Option, None, Some, Contains, length}
 use Rattle.allowed_outcomes.specs.Allowing.{is_allowed_line, without_number}
 use Rattle.allowed_outcomes.specs.Known.{allows_line}
 use Rattle.allowed_outcomes.specs.declared.allowing.Allowed.{Allowed}
@@ -31,17 +31,17 @@ IsRefusedBy (Some allowed) line = allows_line allowed (without_number line) ≡ 
 abbrev pub IsSoughtBy : (is_asked : Bool) → List WordName → Option Allowed → Outcome → Type 0
 IsSoughtBy is_asked names allowed o = (is_asked ≡ true) × ((has_stopped o.results ≡ true) ⊎ IsRefusedBy allowed (end_text names o))
 
--- a search under a memory model ended at the first only where that was asked for, and it tells an outcome in which a hart has stopped, or that the text doesn't allow, where the words are called so; and it ended at no time
-pub record EndsUnder (is_asked : Bool) (names : List WordName) (text : Option (List ℕ)) (found : Architecture) : Type 0 where
+-- a search under a memory model ended at the first only where that was asked for, and it tells an outcome in which a hart has stopped, or that the text doesn't allow, where the words are called so; and by the clock only where it was given seconds
+pub record EndsUnder (is_asked : Bool) (seconds : ℕ) (names : List WordName) (text : Option (List ℕ)) (found : Architecture) : Type 0 where
   pub first : found.reach ≡ reach.Ended First → (is_asked ≡ true) × ((o : Outcome) × Contains (ends_of found.outcomes.items) o × ((has_stopped o.results ≡ true) ⊎ IsRefused text (end_text names o)))
-  pub untimed : found.reach ≢ reach.Ended Time
+  pub timed : found.reach ≡ reach.Ended Time → 0 < seconds
 
--- it ended at the first only where that was asked for, and it tells a hart that stops, or an outcome that the text doesn't allow, where the words are called so; and it ended at no time
-pub record EndsBy (is_asked : Bool) (names : List WordName) (text : Option (List ℕ)) (found : Exploration) : Type 0 where
+-- it ended at the first only where that was asked for, and it tells a hart that stops, or an outcome that the text doesn't allow, where the words are called so; and by the clock only where it was given seconds
+pub record EndsBy (is_asked : Bool) (seconds : ℕ) (names : List WordName) (text : Option (List ℕ)) (found : Exploration) : Type 0 where
   pub first : found.extent ≡ Ended First → (is_asked ≡ true) × ((0 < length found.failures.items) ⊎ ((o : Outcome) × Contains (outcomes_of found.outcomes.items) o × IsRefused text (end_text names o)))
-  pub untimed : found.extent ≢ Ended Time
+  pub timed : found.extent ≡ Ended Time → 0 < seconds
 
 -- and so of what was judged: it tells a hart that stops, or the judgement is that not all are allowed
-pub record EndsJudged (is_asked : Bool) (judgement : Judgement) (found : Exploration) : Type 0 where
+pub record EndsJudged (is_asked : Bool) (seconds : ℕ) (judgement : Judgement) (found : Exploration) : Type 0 where
   pub first : found.extent ≡ Ended First → (is_asked ≡ true) × ((0 < length found.failures.items) ⊎ (judgement ≡ NotAllowed))
-  pub untimed : found.extent ≢ Ended Time
+  pub timed : found.extent ≡ Ended Time → 0 < seconds

@@ -84,14 +84,21 @@ fn found_in<P: Progress>(
 ) -> Result<Exploration, AllocError>
     requires room { 0 < wanted.states }
     ensures found { IfOk result (IsFoundIn asked.now.image asked.now.config [] wanted.entry.states) }
-    ensures ends { IfOk result (EndsBy wanted.entry.first [] (option_map (λ bytes. bytes.items) asked.now.allowed)) }
+    ensures ends { IfOk result (EndsBy wanted.entry.first wanted.entry.seconds [] (option_map (λ bytes. bytes.items) asked.now.allowed)) }
 {
     let watch = Telling { progress };
     let exploring = Exploring {
         limit: wanted.states,
         shortened: wanted.shortens(),
     };
-    let seek = First::new(alloc, wanted.first, &[], &asked.allowed)?;
+    let seek = First::new(
+        alloc,
+        wanted.first,
+        &[],
+        &asked.allowed,
+        wanted.seconds,
+        progress,
+    )?;
     let found = explore(
         alloc,
         &asked.image,

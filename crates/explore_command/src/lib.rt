@@ -14,9 +14,11 @@ mod sample;
 mod seeking;
 mod show;
 mod sparing;
+mod until;
 
 pub use architecture::architecture_files;
 pub use exploring::explore_files;
 pub use laws::passing_is_safe;
 pub use sample::sample_files;
 pub use show::show_files;
+pub use until::until_files;

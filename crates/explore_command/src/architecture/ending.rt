@@ -1,16 +1,18 @@
 //! What ends the search under the model itself.
 
+ghost use Rattle.std.specs.Prelude.{◌<◌};
 ghost use Rattle.explore_command.specs.Sought.{IsSoughtBy};
 
 use crate::architecture::seeking::FirstOutcome;
 use architecture_outcomes::window_search::Seek;
 use flat_model::HartResult;
+use progress_line::Progress;
 use std::alloc::AllocError;
 
-impl Seek for FirstOutcome<'_, '_> {
+impl<P: Progress> Seek for FirstOutcome<'_, '_, P> {
     ghost IsSought = { λ seek outcome. IsSoughtBy seek.first.is_asked seek.first.names.now seek.first.allowed outcome };
 
-    ghost IsTimed = { λ seek. ⊥ };
+    ghost IsTimed = { λ seek. 0 < seek.first.seconds };
 
     fn seeks_outcomes(&self) -> bool {
         self.first.is_asked
@@ -21,6 +23,6 @@ impl Seek for FirstOutcome<'_, '_> {
     }
 
     fn is_late(&self) -> bool {
-        false
+        self.first.is_out_of_time()
     }
 }

@@ -109,14 +109,15 @@ fn found_under<P: Progress>(
     requires room { 0 < wanted.states }
     requires words { CanShowEach image.now addresses.now }
     ensures found { IfOk result (IsFoundUnder image.now config addresses.now window wanted.entry.states) }
-    ensures ends { IfOk result (EndsUnder wanted.entry.first names.now (option_map (λ bytes. bytes.items) allowed.now)) }
+    ensures ends { IfOk result (EndsUnder wanted.entry.first wanted.entry.seconds names.now (option_map (λ bytes. bytes.items) allowed.now)) }
 {
     let watch = Telling { progress };
     let exploring = Exploring {
         limit: wanted.states,
         shortened: wanted.shortens(),
     };
-    let seek = FirstOutcome::new(alloc, wanted.first, names, allowed)?;
+    let (is_asked, seconds) = (wanted.first, wanted.seconds);
+    let seek = FirstOutcome::new(alloc, is_asked, names, allowed, seconds, progress)?;
     let found = explore_architecture(
         alloc, image, config, addresses, window, exploring, &watch, &seek, &seek,
     );

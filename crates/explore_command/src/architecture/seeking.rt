@@ -1,6 +1,6 @@
 //! What a search under a memory model that is to end at the first of what it finds seeks.
 
-ghost use Rattle.std.specs.Prelude.{◌≡◌, IfOk, List, Ok, option_map, true, ℕ};
+ghost use Rattle.std.specs.Prelude.{◌≡◌, ◌<◌, IfOk, List, Ok, option_map, true, ℕ};
 ghost use Rattle.explore_command.specs.Sought.{IsRefused, IsRefusedBy, IsSoughtBy};
 ghost use Rattle.explorer.specs.Ends.{outcome_with};
 
@@ -10,26 +10,30 @@ use allowed_outcomes::without_number;
 use exploration_text::{WordName, end_text};
 use explorer::{Outcome, Seek};
 use flat_model::HartResult;
+use progress_line::Progress;
 use std::alloc::{AllocError, Global};
 
 /// Seeks an outcome in which a hart has stopped, or that a text doesn't allow, where it is asked to.
 #[derive(Drop)]
-pub(crate) struct FirstOutcome<'f, 'w> {
-    pub(crate) first: First<'f, 'w>,
+pub(crate) struct FirstOutcome<'f, 'w, P> {
+    pub(crate) first: First<'f, 'w, P>,
 }
 
-impl<'f, 'w> FirstOutcome<'f, 'w> {
+impl<'f, 'w, P: Progress> FirstOutcome<'f, 'w, P> {
     pub(crate) fn new(
         alloc: Global,
         is_asked: bool,
         names: &'f [WordName<'w>],
         text: &'f Option<Vec<u8>>,
-    ) -> Result<FirstOutcome<'f, 'w>, AllocError>
+        seconds: u32,
+        progress: &'f P,
+    ) -> Result<FirstOutcome<'f, 'w, P>, AllocError>
         ensures asked { IfOk result (λ seek. seek.first.is_asked ≡ is_asked) }
+        ensures seconds { IfOk result (λ seek. seek.first.seconds ≡ seconds) }
         ensures names { IfOk result (λ seek. seek.first.names.now ≡ names.now) }
         ensures refuses { IfOk result (λ seek. (line : List ℕ) → IsRefusedBy seek.first.allowed line → IsRefused (option_map (λ bytes. bytes.items) text.now) line) }
     {
-        let first = First::new(alloc, is_asked, names, text)?;
+        let first = First::new(alloc, is_asked, names, text, seconds, progress)?;
         Ok(FirstOutcome { first })
     }
 
@@ -51,12 +55,12 @@ impl<'f, 'w> FirstOutcome<'f, 'w> {
     }
 }
 
-impl Seek for FirstOutcome<'_, '_> {
+impl<P: Progress> Seek for FirstOutcome<'_, '_, P> {
     ghost SeeksStops = { λ seek. ⊥ };
 
     ghost IsSought = { λ seek outcome. IsSoughtBy seek.first.is_asked seek.first.names.now seek.first.allowed outcome };
 
-    ghost IsTimed = { λ seek. ⊥ };
+    ghost IsTimed = { λ seek. 0 < seek.first.seconds };
 
     fn seeks_stops(&self) -> bool {
         false
@@ -71,6 +75,6 @@ impl Seek for FirstOutcome<'_, '_> {
     }
 
     fn is_late(&self) -> bool {
-        false
+        self.first.is_out_of_time()
     }
 }

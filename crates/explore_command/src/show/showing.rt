@@ -89,14 +89,16 @@ fn found_in<P: Progress>(
     requires room { 0 < wanted.states }
     requires words { CanShowEach asked.now.image asked.now.targets.addresses.items }
     ensures found { IfOk result (IsFoundIn asked.now.image asked.now.config asked.now.targets.addresses.items wanted.entry.states) }
-    ensures ends { IfOk result (EndsBy wanted.entry.first asked.now.targets.names.items (option_map (λ bytes. bytes.items) asked.now.allowed)) }
+    ensures ends { IfOk result (EndsBy wanted.entry.first wanted.entry.seconds asked.now.targets.names.items (option_map (λ bytes. bytes.items) asked.now.allowed)) }
 {
     let watch = Telling { progress };
     let exploring = Exploring {
         limit: wanted.states,
         shortened: wanted.shortens(),
     };
-    let seek = First::new(alloc, wanted.first, &asked.targets.names, &asked.allowed)?;
+    let names = &asked.targets.names;
+    let (is_asked, seconds) = (wanted.first, wanted.seconds);
+    let seek = First::new(alloc, is_asked, names, &asked.allowed, seconds, progress)?;
     let addresses = &asked.targets.addresses;
     let found = explore(
         alloc,

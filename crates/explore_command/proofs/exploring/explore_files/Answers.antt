@@ -49,7 +49,7 @@ returns-clause-explored g c =
     whole (g.F.Files.held c.args.files.now) c.args.wanted c.in_ok-asked.asked.config c.in_ok-asked.asked.image c.in_ok-asked.asked.symbols c.in-Ok.exploration c.in_ok-asked.ensures.config.0 c.in_ok-asked.ensures.config.1 c.in_ok-asked.ensures.symbols
     c.in-Ok.ensures.found
     _ _ (g.F.Files.held c.keep.new.files) judgement c.in_ok-print.ensures.printed c.in_ok-asked.ensures.named c.in_ok-keep.ensures.kept (spared_after _ _ _ _ c.in_ok-asked.ensures.stays c.keep.ensures.spared) (judged _ c.args.wanted.allow _ _ _ judgement c.in_ok-asked.ensures.allowed so.0) so.1
-    (ends_judged [] c.args.wanted.first _ _ c.in-Ok.exploration judgement so.0 c.in-Ok.ensures.ends))
+    (ends_judged [] c.args.wanted.first c.args.wanted.seconds _ _ c.in-Ok.exploration judgement so.0 c.in-Ok.ensures.ends))
     (ok_both _ _ c.judge-judgement.result c.judge-judgement.ensures.judged c.judge-judgement.ensures.whole)
 
 pub returns-clause-told : goal.returns-clause-told

@@ -17,4 +17,4 @@ returns-clause-found g c =
 pub returns-clause-ends : goal.returns-clause-ends
 returns-clause-ends g c =
     let seek = c.in_ok-seek.seek in
-    ends_by c.args.wanted.first seek.is_asked [] seek.names.now (option_map (λ bytes. bytes.items) c.args.asked.now.allowed) (IsRefusedBy seek.allowed) c.in_ok-seek.ensures.asked c.in_ok-seek.ensures.names c.in_ok-seek.ensures.refuses c.explore-found.result c.explore-found.ensures.first c.explore-found.ensures.timed
+    ends_by c.args.wanted.first seek.is_asked c.args.wanted.seconds seek.seconds [] seek.names.now (option_map (λ bytes. bytes.items) c.args.asked.now.allowed) (IsRefusedBy seek.allowed) c.in_ok-seek.ensures.asked c.in_ok-seek.ensures.seconds c.in_ok-seek.ensures.names c.in_ok-seek.ensures.refuses c.explore-found.result c.explore-found.ensures.first c.explore-found.ensures.timed

@@ -90,7 +90,7 @@ returns-clause-searched g c =
     (λ judgement is.
     whole held c.args.wanted c.args.words.now c.args.window asked.config asked.image c.deref.result.now _ c.in-Ok.architecture c.in_ok-config.ensures.config.0 c.in_ok-config.ensures.config.1 program c.in_ok-config.ensures.names
     c.in-Ok.ensures.found
-    _ _ (g.F.Files.held c.keep.new.files) judgement _ c.in_ok-print.ensures.printed c.in_ok-config.ensures.named c.in_ok-keep.ensures.kept (subst (λ (n : List WordName). EndsUnder c.args.wanted.first n (option_map (λ bytes. bytes.items) asked.allowed) c.in-Ok.architecture) c.deref-2.ensures.value c.in-Ok.ensures.ends) (spared_after _ _ _ _ c.in_ok-config.ensures.stays c.keep.ensures.spared) c.in_ok-config.ensures.allowed is.0 is.1)
+    _ _ (g.F.Files.held c.keep.new.files) judgement _ c.in_ok-print.ensures.printed c.in_ok-config.ensures.named c.in_ok-keep.ensures.kept (subst (λ (n : List WordName). EndsUnder c.args.wanted.first c.args.wanted.seconds n (option_map (λ bytes. bytes.items) asked.allowed) c.in-Ok.architecture) c.deref-2.ensures.value c.in-Ok.ensures.ends) (spared_after _ _ _ _ c.in_ok-config.ensures.stays c.keep.ensures.spared) c.in_ok-config.ensures.allowed is.0 is.1)
     (ok_both _ _ c.judge-judgement.result c.judge-judgement.ensures.judged c.judge-judgement.ensures.whole)
 
 pub returns-clause-told : goal.returns-clause-told

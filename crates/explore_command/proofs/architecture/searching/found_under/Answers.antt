@@ -10,5 +10,5 @@ returns-clause-found g c =
 pub returns-clause-ends : goal.returns-clause-ends
 returns-clause-ends g c =
     let seek = c.in_ok-seek.seek.first in
-    searched.ends_under c.args.wanted.first seek.is_asked c.args.names.now seek.names.now (option_map (λ bytes. bytes.items) c.args.allowed.now) seek.allowed c.in_ok-seek.ensures.asked c.in_ok-seek.ensures.names c.in_ok-seek.ensures.refuses
+    searched.ends_under c.args.wanted.first seek.is_asked c.args.wanted.seconds seek.seconds c.args.names.now seek.names.now (option_map (λ bytes. bytes.items) c.args.allowed.now) seek.allowed c.in_ok-seek.ensures.asked c.in_ok-seek.ensures.seconds c.in_ok-seek.ensures.names c.in_ok-seek.ensures.refuses
     c.explore_architecture-found.result c.explore_architecture-found.ensures.first c.explore_architecture-found.ensures.timed

@@ -16,4 +16,4 @@ pub returns-clause-ends : goal.returns-clause-ends
 returns-clause-ends g c =
     let asked = c.args.asked.now in
     let seek = c.in_ok-seek.seek in
-    ends_by c.args.wanted.first seek.is_asked asked.targets.names.items seek.names.now (option_map (λ bytes. bytes.items) asked.allowed) (IsRefusedBy seek.allowed) c.in_ok-seek.ensures.asked (c.in_ok-seek.ensures.names ∙ c.deref.ensures.value) c.in_ok-seek.ensures.refuses c.explore-found.result c.explore-found.ensures.first c.explore-found.ensures.timed
+    ends_by c.args.wanted.first seek.is_asked c.args.wanted.seconds seek.seconds asked.targets.names.items seek.names.now (option_map (λ bytes. bytes.items) asked.allowed) (IsRefusedBy seek.allowed) c.in_ok-seek.ensures.asked c.in_ok-seek.ensures.seconds (c.in_ok-seek.ensures.names ∙ c.deref.ensures.value) c.in_ok-seek.ensures.refuses c.explore-found.result c.explore-found.ensures.first c.explore-found.ensures.timed

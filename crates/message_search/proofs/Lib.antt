@@ -1,0 +1,3 @@
+pub mod Names
+pub mod Seeing
+pub mod Sending
