@@ -1,5 +1,5 @@
 -- What kept a hart of a run from its end.
-use Rattle.std.specs.Prelude.{ℕ, length, nat_le, slice_index_or, Bool, false, true, Option, Some, None, if◌then◌else◌}
+use Rattle.std.specs.Prelude.{ℕ, length, nat_le, slice_index_or, Option, Some, None, if◌then◌else◌}
 use Rattle.hart.specs.Run.{is_running}
 use Rattle.hart.specs.declared.status.Status.TheVariants.{Stopped}
 use Rattle.machine_types.specs.declared.limits.TheConstants.{MAX_CHANGES, MAX_ENTRIES}

@@ -1,35 +1,40 @@
 //! `rvtl run`: a program runs with a thread for each hart, what happened is kept as a script, and the
 //! trace printed.
 
-ghost use Rattle.std.specs.Prelude.{◌≡◌, ◌≢◌, ◌⊎◌, ℕ, Err, IfErr, IsErr, List, OnErr, OnOk};
+ghost use Rattle.std.specs.Prelude.{◌≡◌, ◌≢◌, ◌⊎◌, ◌++◌, ℕ, Err, IfErr, IfOk, IsErr, List, OnErr, OnOk, map};
 ghost use Rattle.std.specs.Io.KnownBytes.{Appends};
+ghost use Rattle.std.specs.List.{list_any};
 ghost use Rattle.command_files.specs.Contents.{HoldsBytes};
-ghost use Rattle.run_command.specs.Running.{ComesBeforeJournal, IsRun, IsRunCutOff, IsRunEndTold, run_fault};
+ghost use Rattle.command_files.specs.Ends.{hart_lines};
+ghost use Rattle.command_settings.specs.Settings.{fails_on_stop};
+ghost use Rattle.run_command.specs.Running.{ComesBeforeJournal, IsRun, IsRunCutOff, IsRunEndTold, is_stopped, judgement_line, judgement_of, run_fault};
 ghost use Rattle.command_files.specs.Sizes.{IsOutside};
 ghost use Rattle.run_command.specs.Running.{IsRunFault};
 ghost use Rattle.command_files.specs.Faults.{LeavesAtFault};
-ghost use Rattle.text_fields.specs.Writing.{Begins};
+ghost use Rattle.text_fields.specs.Writing.{Begins, Writes};
 ghost use Rattle.trace_text.specs.Scripts.{text};
 ghost use Rattle.trace_text.specs.TraceLimits.{IsTrace};
 ghost use Rattle.trace_text.specs.Traces.{text as trace_text};
 
 use crate::limits::LimitNote;
 use command_files::{
-    Fault, Files, check_writable, named_config, out_of_limits, print_ends, remark, script_of,
-    unmade,
+    Fault, Files, Judgement, check_writable, named_config, out_of_limits, print_ends, remark,
+    script_of, unmade,
 };
 use command_settings::Run;
 use elf_symbols::Symbols;
+use hart::Status;
 use host_threads::{Gate, Report, RunError, run};
 use machine_traces::every_trace_has_a_text;
 use progress_line::{Progress, Stage};
 use script_commands::stop_text::StopNote;
 use script_commands::{NamedImage, named_image_in};
 use std::alloc::Global;
-use std::io::Write;
+use std::io::{self, Write};
 use std::sync::Wait;
 use std::sync::atomic::{AtomicU64, Ordering};
 use std::thread::Threads;
+use text_fields::put;
 use trace_recorder::Trace;
 use trace_text::{Script, write_script, write_trace};
 
@@ -75,7 +80,8 @@ impl<P: Progress> Gate for Watch<'_, P> {
 /// `out` and each hart's end on `err`. Where the journal is not written nothing is printed. A journal in no
 /// folder, or over the image's file or standard output by whatever name, is refused before the run, which can't be
 /// made again. Where
-/// and why harts stopped is remarked, and which limits ended the run before its harts. While it runs, `progress` is told how far it is.
+/// and why harts stopped is remarked, and which limits ended the run before its harts. Where a hart stopped and the run may
+/// not come to that, that is told behind the harts' ends. While it runs, `progress` is told how far it is.
 pub fn run_files<'a, R: Threads + Wait + Sync, F: Files, O: Write, E: Write, P: Progress + Sync>(
     rt: &R,
     alloc: Global,
@@ -84,9 +90,9 @@ pub fn run_files<'a, R: Threads + Wait + Sync, F: Files, O: Write, E: Write, P: 
     out: &mut O,
     err: &mut E,
     progress: &P,
-) -> Result<(), Fault<'a>>
-    ensures ran { OnOk result (IsRun (F.held files.old) (F.held files.new) wanted.entry (O.contents out.old) (O.contents out.new)) }
-    ensures ends { OnOk result (IsRunEndTold (F.held files.old) (F.held files.new) wanted.entry (E.contents err.old) (E.contents err.new)) }
+) -> Result<Judgement, Fault<'a>>
+    ensures ran { IfOk result (λ judgement. IsRun (F.held files.old) (F.held files.new) wanted.entry judgement (O.contents out.old) (O.contents out.new)) }
+    ensures ends { IfOk result (λ judgement. IsRunEndTold (F.held files.old) (F.held files.new) wanted.entry judgement (E.contents err.old) (E.contents err.new)) }
     ensures silent { OnErr result (E.contents err.new ≡ E.contents err.old) }
     ensures outside { IsOutside wanted.entry.machine → result ≡ Err Fault.Configuration }
     ensures told { IfErr result (IsRunFault (F.held files.old) wanted.entry) }
@@ -130,9 +136,56 @@ pub fn run_files<'a, R: Threads + Wait + Sync, F: Files, O: Write, E: Write, P: 
     remark_ends(alloc, files, &trace, &names, changes, limit);
     keep(alloc, files, wanted.journal, &script)?;
     print(&trace, out)?;
+    let judgement = judged(wanted.fails_on_stop(), trace.statuses());
     // Standard error has no other place to tell that it takes no more.
-    let _ = print_ends(trace.statuses(), outputs.as_slice(), err);
-    Ok(())
+    let _ = tell_ends(trace.statuses(), outputs.as_slice(), judgement, err);
+    Ok(judgement)
+}
+
+/// Whether harts that ended so are what a run may come to.
+fn judged(fails_on_stop: bool, statuses: &[Status]) -> Judgement
+    ensures { result ≡ judgement_of fails_on_stop statuses.now }
+{
+    if !fails_on_stop {
+        return Judgement::Allowed;
+    }
+    if have_stopped(statuses) {
+        Judgement::NotAllowed
+    } else {
+        Judgement::Allowed
+    }
+}
+
+/// Whether a hart of these stopped.
+fn have_stopped(statuses: &[Status]) -> bool
+    ensures { result ≡ list_any is_stopped statuses.now }
+{
+    statuses.iter().any(|status| is_stopped(*status))
+}
+
+fn is_stopped(status: Status) -> bool
+    ensures { result ≡ is_stopped status }
+{
+    match status {
+        Status::Stopped(_) => true,
+        Status::Running | Status::Exited(_) => false,
+    }
+}
+
+/// How each hart ended, and what was judged of that.
+fn tell_ends<E: Write>(
+    statuses: &[Status],
+    outputs: &[Vec<u32>],
+    judgement: Judgement,
+    err: &mut E,
+) -> io::Result<()>
+    ensures { Writes (E.contents err.old) (E.contents err.new) (hart_lines 0 statuses.now (map (λ output. output.items) outputs.now) ++ judgement_line judgement) result }
+{
+    print_ends(statuses, outputs, err)?;
+    match judgement {
+        Judgement::Allowed => Ok(()),
+        Judgement::NotAllowed => put(err, b"a hart stopped (--fail-on stop)\n"),
+    }
 }
 
 /// Refuses a journal of which no file can be made, and one that would be written over the program or be lost in

@@ -1,4 +1,4 @@
-use Rattle.std.proofs.Common.{◌≡◌, ◌∙◌, ◌⊎◌, ◌≤◌, ℕ, List, Option, ap, arith, inl, inr, length, map, subst, sym}
+use Rattle.std.proofs.Common.{◌≡◌, ◌∙◌, ◌⊎◌, ◌≤◌, ℕ, Bool, List, Option, ap, arith, inl, inr, length, map, subst, sym}
 use Rattle.host_threads.specs.Moves.{AreMoves}
 use Rattle.command_files.specs.Sizes.{IsInside, config_of, config_named, script_for}
 use Rattle.command_files.specs.Files.{HoldsImage}
@@ -23,7 +23,10 @@ use Rattle.trace_text.specs.Scripts.{IsEvent, text as script_text}
 use Rattle.trace_text.specs.TraceLimits.{IsTrace}
 use Rattle.trace_text.specs.Traces.{text}
 use Rattle.trace_text.specs.declared.script.Script.{Script}
-use Rattle.command_files.proofs.Ended.{ends_begun}
+use Rattle.command_settings.specs.Settings.{fails_on_stop}
+use Rattle.hart.specs.declared.status.Status.{Status}
+use Rattle.run_command.proofs.Ended.{ends_judged}
+use Rattle.run_command.specs.Running.{judgement_of}
 use Rattle.command_files.proofs.Left.{handed_up, spoiled}
 use Rattle.command_files.proofs.Limits.{script_within}
 use Rattle.command_files.proofs.Replays.{leads_there, readable}
@@ -119,6 +122,10 @@ returns-clause-ran g c =
       image = image;
       reached = s;
       kept = kept _ _ c.in-Some.config run image script c.in-Ok.report.journal.items named.0 named.1 same c.in_ok-image.ensures.loaded c.script_of-script.ensures.events c.in_ok-keep.ensures.kept c.in-Ok.ensures.moves (omega (arith, c.in-Ok.ensures.limit.events, c.from-limit.ensures));
+      judged =
+          c.judged-judgement.ensures
+          ∙ (ap (λ (b : Bool). judgement_of b c.statuses.result.now) c.fails_on_stop.ensures
+          ∙ ap (λ (ss : List Status). judgement_of (fails_on_stop run.fail_on) ss) (c.statuses.ensures ∙ ap (λ (h : History). h.statuses) trace_same));
       composed = record {
         replayed = leads_there image script run.machine.model c.in-Some.config c.in-Ok.report.journal.items s config_same (sym (ap (λ (t : Script). t.events) same)) c.in-Ok.ensures.replays;
         printed = printed_same _ _ _ _ trace_same c.in_ok-print.ensures.printed;
@@ -143,7 +150,7 @@ returns-clause-ends g c =
       reached = s;
       kept = kept _ _ c.in-Some.config run image script c.in-Ok.report.journal.items named.0 named.1 same c.in_ok-image.ensures.loaded c.script_of-script.ensures.events c.in_ok-keep.ensures.kept c.in-Ok.ensures.moves (omega (arith, c.in-Ok.ensures.limit.events, c.from-limit.ensures));
       replayed = leads_there image script run.machine.model c.in-Some.config c.in-Ok.report.journal.items s config_same (sym (ap (λ (t : Script). t.events) same)) c.in-Ok.ensures.replays;
-      begun = ends_begun (g.E.Write.contents c.args.err.now) (g.E.Write.contents c.print_ends.new.err) s _ c.statuses.result.now _ c.print_ends.result c.statuses.ensures c.in-Ok.ensures.report.trace (ap (map (λ output. output.items)) c.as_slice.ensures.value ∙ c.in-Ok.ensures.report.outputs) c.print_ends.ensures;
+      begun = ends_judged (g.E.Write.contents c.args.err.now) (g.E.Write.contents c.tell_ends.new.err) s _ c.statuses-2.result.now _ c.judged-judgement.result c.tell_ends.result c.statuses-2.ensures c.in-Ok.ensures.report.trace (ap (map (λ output. output.items)) c.as_slice.ensures.value ∙ c.in-Ok.ensures.report.outputs) c.tell_ends.ensures;
     }
 
 pub returns-clause-spared : goal.returns-clause-spared
