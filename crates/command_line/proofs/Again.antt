@@ -50,7 +50,7 @@ one_state image again script other model another s t image_same script_same mode
     ap (state_or t) (sym led ∙ (same ∙ leads))
 
 pub runs_replay : RunsReplay
-runs_replay held left run replay old new before after of ran replayed =
+runs_replay held left run judgement replay old new before after of ran replayed =
     let kept = ran.kept in
     let journal = known_bytes (left run.journal.now) _ of.kept kept.journal_file.bytes in
     let script_same : replayed.script ≡ ran.script = replayed.only ran.script kept.journal_file.is_script (ap left of.script ∙ journal) in

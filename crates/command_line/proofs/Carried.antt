@@ -3,19 +3,23 @@ use Rattle.std.proofs.Common.{◌≡◌, ◌≢◌, ◌⊎◌, ℕ, Bool, Err, I
 use Rattle.std.specs.Prelude.{OnErr, nat_lt}
 use Rattle.clap.specs.Words.{Text}
 use Rattle.command_files.specs.Contents.{Contents}
+use Rattle.command_files.specs.Faults.{LeavesAtFault}
 use Rattle.command_files.specs.Status.{status_of}
 use Rattle.command_files.specs.declared.fault.Fault.{Fault}
-use Rattle.command_line.proofs.Meant.{beyond_explore, beyond_fences, beyond_show, written}
+use Rattle.command_line.proofs.Meant.{beyond_explore, beyond_fences, beyond_run, beyond_show, written}
+use Rattle.command_settings.specs.Settings.{message_in}
 use Rattle.command_line.specs.Running.{Came, CheckCame, CheckNoted, ExploreCame, IsOutOfRange, IsDone, IsExploreFile, IsFaulty, IsNoted, IsWritten, ShowCame}
 use Rattle.command_settings.specs.declared.wanted.Check.{Check as Judging}
 use Rattle.command_settings.specs.declared.wanted.Explore.{Explore as Sought}
 use Rattle.command_settings.specs.declared.wanted.Audit.{Audit}
 use Rattle.command_settings.specs.declared.wanted.Settings.{Settings}
 use Rattle.command_settings.specs.declared.wanted.Show.{Show as Shown}
-use Rattle.command_settings.specs.declared.wanted.Settings.TheVariants.{Check, Explore, Fences, Show}
+use Rattle.command_settings.specs.declared.wanted.Settings.TheVariants.{Check, Explore, Fences, Run, Show}
+use Rattle.command_settings.specs.declared.wanted.Run.{Run as Asked}
+use Rattle.run_command.specs.Running.{IsRun, IsRunFault}
 use Rattle.command_line.specs.Telling.{AreJudged, AreWordsJudged, ComesBeforeFiles, IsFaultOfCommand, IsNotedAt, IsShowingFault}
 use Rattle.fences_command.specs.Fencing.{IsAuditTold, IsFencesFault}
-use Rattle.fences_command.specs.Keeping.{IsProgramFile}
+use Rattle.fences_command.specs.Witnesses.{IsFencesFile}
 use Rattle.explore_command.specs.Exploring.{ComesBeforeScripts, IsExploreFault, LeavesPart}
 use Rattle.explore_command.specs.Keeping.{SparesOthers}
 use Rattle.command_files.specs.declared.allowing.Judgement.{Judgement}
@@ -27,7 +31,7 @@ if_err P Q (Err fault) law so = law fault so
 
 module _ (held left : Contents) (old new : Option (List ℕ)) (wanted : Settings) where
   pub explore_came : (explore : Sought) (r : Result Judgement Fault) → wanted ≡ Explore explore
-      → IfOk r (λ judgement. ExploreCame explore.architecture (nat_lt 0 explore.sample) judgement held left explore old new) → IfOk r (Came held left old new wanted)
+      → IfOk r (λ judgement. ExploreCame (message_in explore.until) explore.architecture (nat_lt 0 explore.sample) judgement held left explore old new) → IfOk r (Came held left old new wanted)
   explore_came explore (Ok Allowed) is so = subst (IsDone held left old new) (sym is) so
   explore_came explore (Ok NotAllowed) is so = subst (IsFaulty held left old new) (sym is) so
   explore_came explore (Err fault) is so = tt
@@ -37,6 +41,11 @@ module _ (held left : Contents) (old new : Option (List ℕ)) (wanted : Settings
   show_came show (Ok Allowed) is so = subst (IsDone held left old new) (sym is) so
   show_came show (Ok NotAllowed) is so = subst (IsFaulty held left old new) (sym is) so
   show_came show (Err fault) is so = tt
+
+  pub run_came : (run : Asked) (r : Result Judgement Fault) → wanted ≡ Run run → IfOk r (λ judgement. IsRun held left run judgement old new) → IfOk r (Came held left old new wanted)
+  run_came run (Ok Allowed) is so = subst (IsDone held left old new) (sym is) so
+  run_came run (Ok NotAllowed) is so = subst (IsFaulty held left old new) (sym is) so
+  run_came run (Err fault) is so = tt
 
   pub fences_came : (audit : Audit) (r : Result Judgement Fault) → wanted ≡ Fences audit → IfOk r (λ judgement. IsAuditTold held left audit judgement old new) → IfOk r (Came held left old new wanted)
   fences_came audit (Ok Allowed) is so = subst (IsDone held left old new) (sym is) so
@@ -104,8 +113,14 @@ pub check_beyond : (old new : Option (List ℕ)) (wanted : Settings) (r : Result
 check_beyond old new wanted (Ok judgement) never = tt
 check_beyond old new wanted (Err fault) never = λ two. absurd (never two)
 
-pub fences_written : (held left : Contents) (wanted : Settings) (audit : Audit) → wanted ≡ Fences audit → SparesOthers (IsProgramFile audit.fences.write) held left → (name : Text) → left name ≢ held name → IsWritten name wanted
+pub fences_written : (held left : Contents) (wanted : Settings) (audit : Audit) → wanted ≡ Fences audit → SparesOthers (IsFencesFile audit.fences) held left → (name : Text) → left name ≢ held name → IsWritten name wanted
 fences_written held left wanted audit is spares = λ name changed. subst (IsWritten name) (sym is) (written held left _ spares name changed)
+
+pub run_beyond : (held : Contents) (old new : Option (List ℕ)) (wanted : Settings) (run : Asked) (broken : Type 0) (r : Result Judgement Fault) → wanted ≡ Run run → IfErr r (IsRunFault held run)
+    → IfErr r (λ fault. LeavesAtFault fault old new broken) → IfErr r (λ fault. status_of fault ≡ 2 → IsOutOfRange wanted × (new ≡ old))
+run_beyond held old new wanted run broken (Ok judgement) is told leaves = tt
+run_beyond held old new wanted run broken (Err fault) is told leaves = λ two.
+    let it = beyond_run held old new run broken fault told leaves two in (subst IsOutOfRange (sym is) it.0, it.1)
 
 pub fences_beyond : (held : Contents) (old new : Option (List ℕ)) (wanted : Settings) (audit : Audit) (Has : (List ℕ → Type 0) → Type 0) (r : Result Judgement Fault) → wanted ≡ Fences audit → IfErr r (IsFencesFault held audit)
     → IfErr r (λ fault. LeavesPart fault old new Has) → IfErr r (λ fault. status_of fault ≡ 2 → IsOutOfRange wanted × (new ≡ old))
@@ -126,7 +141,7 @@ module _ (held : Contents) (old new before after : Option (List ℕ)) (wanted : 
   noted_at meant fault is so = subst (λ w. IsNotedAt held old new before after w fault) (sym is) so
 
   pub explore_silent : (explore : Sought) (r : Result Judgement Fault) → wanted ≡ Explore explore → IfErr r (λ fault. ComesBeforeScripts fault → after ≡ before)
-      → OnErr r ((after ≡ before) ⊎ AreJudged explore.architecture (nat_lt 0 explore.sample) held explore old new before after) → IfErr r (IsNotedAt held old new before after wanted)
+      → OnErr r ((after ≡ before) ⊎ AreJudged (message_in explore.until) explore.architecture (nat_lt 0 explore.sample) held explore old new before after) → IfErr r (IsNotedAt held old new before after wanted)
   explore_silent explore (Ok judgement) is silent judged = tt
   explore_silent explore (Err fault) is silent judged = noted_at (Explore explore) fault is (silent, judged)
 
@@ -138,6 +153,10 @@ module _ (held : Contents) (old new before after : Option (List ℕ)) (wanted : 
   pub fences_silent : (audit : Audit) (r : Result Judgement Fault) → wanted ≡ Fences audit → after ≡ before → IfErr r (IsNotedAt held old new before after wanted)
   fences_silent audit (Ok judgement) is same = tt
   fences_silent audit (Err fault) is same = noted_at (Fences audit) fault is same
+
+  pub run_silent : (run : Asked) (r : Result Judgement Fault) → wanted ≡ Run run → OnErr r (after ≡ before) → IfErr r (IsNotedAt held old new before after wanted)
+  run_silent run (Ok judgement) is same = tt
+  run_silent run (Err fault) is same = noted_at (Run run) fault is same
 
   pub check_silent : (check : Judging) (r : Result Judgement Fault) → wanted ≡ Check check → OnErr r (after ≡ before) → IfErr r (IsNotedAt held old new before after wanted)
   check_silent check (Ok judgement) is same = tt

@@ -15,6 +15,9 @@ use Rattle.command_files.specs.declared.fault.Unshown.TheVariants.{Elsewhere}
 use Rattle.command_line.proofs.StreamLeft.{stream_either}
 use Rattle.command_line.specs.Running.{ExploreHas, IsHalfPrinted, IsOutOfRange, ShowHas, ShowsElsewhere}
 use Rattle.command_line.specs.Telling.{LeavesOf, LeavesOfExplaining}
+use Rattle.command_settings.specs.Settings.{message_in}
+use Rattle.message_pattern.specs.declared.pattern.MessagePattern.{MessagePattern}
+use Rattle.command_settings.specs.declared.wanted.Run.{Run as Asked}
 use Rattle.command_settings.specs.declared.wanted.Check.{Check as Judging}
 use Rattle.command_settings.specs.declared.wanted.Explore.{Explore as Sought}
 use Rattle.command_settings.specs.declared.wanted.Audit.{Audit}
@@ -51,10 +54,11 @@ module _ (held left : Contents) (old new : Option (List ℕ)) where
   all_left_of wanted meant (Err fault) is so = left_of wanted meant fault is so
 
   -- all of a text is a beginning of it
-  search_begins : (architecture sampled : Bool) (explore : Sought) → ExploreHas architecture sampled held explore (Appends old new) → ExploreHas architecture sampled held explore (Begins old new)
-  search_begins true sampled explore so = record { architecture = so.architecture; of_file = so.of_file; of_text = all_of old new _ so.of_text }
-  search_begins false true explore so = record { image = so.image; found = so.found; image_file = so.image_file; inside = so.inside; runs_made = so.runs_made; of_text = all_of old new _ so.of_text }
-  search_begins false false explore so = record { image = so.image; symbols = so.symbols; exploration = so.exploration; image_file = so.image_file; inside = so.inside; found = so.found; of_text = all_of old new _ so.of_text }
+  search_begins : (until : Option MessagePattern) (architecture sampled : Bool) (explore : Sought) → ExploreHas until architecture sampled held explore (Appends old new) → ExploreHas until architecture sampled held explore (Begins old new)
+  search_begins (Some message) architecture sampled explore so = record { image = so.image; found = so.found; image_file = so.image_file; inside = so.inside; looked = so.looked; so = all_of old new _ so.so }
+  search_begins None true sampled explore so = record { architecture = so.architecture; of_file = so.of_file; of_text = all_of old new _ so.of_text }
+  search_begins None false true explore so = record { image = so.image; found = so.found; image_file = so.image_file; inside = so.inside; runs_made = so.runs_made; of_text = all_of old new _ so.of_text }
+  search_begins None false false explore so = record { image = so.image; symbols = so.symbols; exploration = so.exploration; image_file = so.image_file; inside = so.inside; found = so.found; of_text = all_of old new _ so.of_text }
 
   words_begin : (architecture : Bool) (show : Shown) → ShowHas architecture held show (Appends old new) → ShowHas architecture held show (Begins old new)
   words_begin true show so = record { architecture = so.architecture; of_file = so.of_file; of_text = all_of old new _ so.of_text }
@@ -68,7 +72,7 @@ module _ (held left : Contents) (old new : Option (List ℕ)) where
   either_of (Replay replay) fault so = either old new _ fault so
   either_of (Explain explain) fault so = explain_either explain.vcd old new _ fault so
   either_of (Run run) fault so = either old new _ fault so
-  either_of (Explore explore) fault so = some_part old new (ExploreHas explore.architecture (nat_lt 0 explore.sample) held explore) fault (search_begins explore.architecture (nat_lt 0 explore.sample) explore) so
+  either_of (Explore explore) fault so = some_part old new (ExploreHas (message_in explore.until) explore.architecture (nat_lt 0 explore.sample) held explore) fault (search_begins (message_in explore.until) explore.architecture (nat_lt 0 explore.sample) explore) so
   either_of (Show show) fault so = some_part old new (ShowHas show.explore.architecture held show) fault (words_begin show.explore.architecture show) so
   either_of (Chart chart) fault so = either old new _ fault so
   either_of (Page replay) fault so = inr (page_either held replay old new fault so)
@@ -95,6 +99,10 @@ pub explore_outside : (wanted : Settings) (explore : Sought) (r : Result Judgeme
     → IfErr r (λ fault. IsOutOfRange wanted → status_of fault ≡ 2)
 explore_outside wanted explore (Ok judgement) is outside = tt
 explore_outside wanted explore (Err fault) is outside = λ out. as_told fault Configuration (outside (subst IsOutOfRange is out)) refl
+
+pub run_outside : (wanted : Settings) (run : Asked) (r : Result Judgement Fault) → wanted ≡ Run run → (IsOutside run.machine → r ≡ Err Configuration) → IfErr r (λ fault. IsOutOfRange wanted → status_of fault ≡ 2)
+run_outside wanted run (Ok judgement) is outside = tt
+run_outside wanted run (Err fault) is outside = λ out. as_told fault Configuration (outside (subst IsOutOfRange is out)) refl
 
 pub fences_outside : (wanted : Settings) (audit : Audit) (r : Result Judgement Fault) → wanted ≡ Fences audit → (IsOutside audit.fences.machine → r ≡ Err Configuration)
     → IfErr r (λ fault. IsOutOfRange wanted → status_of fault ≡ 2)
@@ -124,6 +132,10 @@ chart_inside (Some word) place named none = let bad : Some named.0 ≡ None = sy
 pub explore_inside : (wanted : Settings) (explore : Sought) (r : Result Judgement Fault) → wanted ≡ Explore explore → (IsOutside explore.machine → r ≡ Err Configuration) → IfOk r (λ _. ¬ IsOutOfRange wanted)
 explore_inside wanted explore (Ok judgement) is outside = λ out. let bad = outside (subst IsOutOfRange is out) in cc
 explore_inside wanted explore (Err fault) is outside = tt
+
+pub run_inside : (wanted : Settings) (run : Asked) (r : Result Judgement Fault) → wanted ≡ Run run → (IsOutside run.machine → r ≡ Err Configuration) → IfOk r (λ _. ¬ IsOutOfRange wanted)
+run_inside wanted run (Ok judgement) is outside = λ out. let bad = outside (subst IsOutOfRange is out) in cc
+run_inside wanted run (Err fault) is outside = tt
 
 pub fences_inside : (wanted : Settings) (audit : Audit) (r : Result Judgement Fault) → wanted ≡ Fences audit → (IsOutside audit.fences.machine → r ≡ Err Configuration) → IfOk r (λ _. ¬ IsOutOfRange wanted)
 fences_inside wanted audit (Ok judgement) is outside = λ out. let bad = outside (subst IsOutOfRange is out) in cc

@@ -1,5 +1,5 @@
 -- What a run of the program has done, by its status.
-use Rattle.std.specs.Prelude.{◌≡◌, ◌≢◌, ◌⊎◌, ◌<◌, ℕ, [], Bool, false, true, nat_lt, IsSomeAnd, List, None, Option}
+use Rattle.std.specs.Prelude.{◌≡◌, ◌≢◌, ◌⊎◌, ◌<◌, ℕ, [], Bool, false, true, nat_lt, IsSomeAnd, List, None, Option, Some}
 use Rattle.clap.specs.Words.{Text}
 use Rattle.command_files.specs.Contents.{Contents}
 use Rattle.script_commands.specs.Replaying.{IsCutOff, IsReplayEndTold, IsReplayed}
@@ -7,7 +7,7 @@ use Rattle.trace_commands.specs.Pages.{IsHalfPaged, IsPaged}
 use Rattle.script_commands.specs.Waving.{AreTold, AreWavesCutOff}
 use Rattle.trace_commands.specs.Kinds.{IsHalfTold, IsTold}
 use Rattle.fences_command.specs.Fencing.{AuditHas, IsAuditTold}
-use Rattle.fences_command.specs.Keeping.{IsProgramFile}
+use Rattle.fences_command.specs.Witnesses.{IsFencesFile}
 use Rattle.explore_command.specs.Exploring.{ExplorationHas, ExplorationRefusals, IsExplorationTold}
 use Rattle.explore_command.specs.Judging.{IsToldBy}
 use Rattle.explore_command.specs.Keeping.{IsScriptFile}
@@ -17,6 +17,7 @@ use Rattle.explore_command.specs.ModelKeeping.{IsFileInNamed}
 use Rattle.explore_command.specs.Searching.{IsSearchNoted, IsSearched, SearchHas}
 use Rattle.explore_command.specs.Sampling.{IsSampleTold, SampleHas, SampleRefusals}
 use Rattle.explore_command.specs.Showing.{AreWordsShown, IsElsewhere, WordRefusals, WordsHave}
+use Rattle.explore_command.specs.Until.{IsWayNoted, IsWayTold, WayHas}
 use Rattle.script_commands.specs.Addresses.{address}
 use Rattle.script_commands.specs.Charting.{IsCharted, IsPictureCutOff as IsHalfCharted}
 use Rattle.trace_commands.specs.Checking.{IsVerdictTold, IsVerdictCutOff}
@@ -24,7 +25,7 @@ use Rattle.trace_commands.specs.Messages.{IsLogCutOff, IsLogJudged}
 use Rattle.trace_commands.specs.MessageCheck.{MessageCheck}
 use Rattle.run_command.specs.Running.{IsRun, IsRunCutOff, IsRunEndTold}
 use Rattle.command_settings.specs.Refusals.{IsFitting, IsForHelp}
-use Rattle.command_settings.specs.Settings.{AreConflicting, IsNamed, asks_tilelink}
+use Rattle.command_settings.specs.Settings.{AreConflicting, IsNamed, asks_tilelink, message_in}
 use Rattle.command_files.specs.Sizes.{IsOutside}
 use Rattle.command_settings.specs.declared.wanted.Breaches.{Breaches}
 use Rattle.command_settings.specs.declared.wanted.Breaches.TheVariants.{All, First}
@@ -38,6 +39,7 @@ use Rattle.command_settings.specs.declared.wanted.Settings.TheVariants.{Chart, C
 use Rattle.command_settings.specs.declared.wanted.Show.{Show as Showing}
 use Rattle.command_files.specs.Strictness.{Strictness}
 use Rattle.command_files.specs.TheVariants.{Lenient, Strict}
+use Rattle.message_pattern.specs.declared.pattern.MessagePattern.{MessagePattern}
 use Rattle.message_judge.specs.Profile.{Profile}
 use Rattle.message_judge.specs.TheVariants.{Machine, TileLink}
 use Rattle.message_judge.specs.declared.verdict.MessageBreach.{MessageBreach}
@@ -92,17 +94,19 @@ abbrev pub CheckCame : Judgement → (of_messages : Bool) → Contents → Judgi
 CheckCame Allowed = IsClean
 CheckCame NotAllowed = IsUnclean
 
--- what is found of a program's ends, under the memory model, by random runs or by a search of all that the machine does, was told and judged
-abbrev pub ExploreCame : (architecture sampled : Bool) → Judgement → Contents → Contents → Seeking → Option (List ℕ) → Option (List ℕ) → Type 0
-ExploreCame true sampled judgement held left explore old new = IsSearched held left explore [] explore.window judgement old new
-ExploreCame false true judgement held left explore old new = IsSampleTold held left explore explore.sample judgement old new
-ExploreCame false false judgement held left explore old new = IsExplorationTold held left explore judgement old new
+-- what random runs show of a message, or what is found of a program's ends, under the memory model, by random runs or by a search of all that the machine does, was told and judged
+abbrev pub ExploreCame : (until : Option MessagePattern) → (architecture sampled : Bool) → Judgement → Contents → Contents → Seeking → Option (List ℕ) → Option (List ℕ) → Type 0
+ExploreCame (Some message) architecture sampled judgement held left explore old new = IsWayTold held explore message judgement old new
+ExploreCame None true sampled judgement held left explore old new = IsSearched held left explore [] explore.window judgement old new
+ExploreCame None false true judgement held left explore old new = IsSampleTold held left explore explore.sample judgement old new
+ExploreCame None false false judgement held left explore old new = IsExplorationTold held left explore judgement old new
 
 -- P holds of the text of it
-abbrev pub ExploreHas : (architecture sampled : Bool) → Contents → Seeking → (List ℕ → Type 0) → Type 0
-ExploreHas true sampled held explore = SearchHas held explore [] explore.window
-ExploreHas false true held explore = SampleHas held explore explore.sample
-ExploreHas false false held explore = ExplorationHas held explore
+abbrev pub ExploreHas : (until : Option MessagePattern) → (architecture sampled : Bool) → Contents → Seeking → (List ℕ → Type 0) → Type 0
+ExploreHas (Some message) architecture sampled held explore = WayHas held explore message
+ExploreHas None true sampled held explore = SearchHas held explore [] explore.window
+ExploreHas None false true held explore = SampleHas held explore explore.sample
+ExploreHas None false false held explore = ExplorationHas held explore
 
 -- the same with words of memory
 abbrev pub ShowCame : (architecture : Bool) → Judgement → Contents → Contents → Showing → Option (List ℕ) → Option (List ℕ) → Type 0
@@ -137,8 +141,8 @@ ExplainBroke false held explain old new = IsHalfTold held explain.replay (strict
 abbrev pub IsDone : Contents → Contents → Option (List ℕ) → Option (List ℕ) → Settings → Type 0
 IsDone held left old new (Replay replay) = IsReplayed held replay old new
 IsDone held left old new (Explain explain) = ExplainCame explain.vcd held explain old new
-IsDone held left old new (Run run) = IsRun held left run old new
-IsDone held left old new (Explore explore) = ExploreCame explore.architecture (nat_lt 0 explore.sample) Allowed held left explore old new
+IsDone held left old new (Run run) = IsRun held left run Allowed old new
+IsDone held left old new (Explore explore) = ExploreCame (message_in explore.until) explore.architecture (nat_lt 0 explore.sample) Allowed held left explore old new
 IsDone held left old new (Show show) = ShowCame show.explore.architecture Allowed held left show old new
 IsDone held left old new (Chart chart) = IsCharted held chart.replay chart.line old new
 IsDone held left old new (Page replay) = IsPaged held replay old new
@@ -151,11 +155,12 @@ CheckNoted Allowed of_messages before after = after ≡ before
 CheckNoted NotAllowed true before after = Unit {0}
 CheckNoted NotAllowed false before after = after ≡ before
 
--- where the outcomes that were printed are allowed nothing, and else a beginning of the lines that tell which ones aren't; under the memory model, where what shows them was written, behind a beginning of what is told of their traces
-abbrev pub ExploreNoted : (architecture sampled : Bool) → Judgement → Contents → Seeking → (old new before after : Option (List ℕ)) → Type 0
-ExploreNoted true sampled judgement held explore old new before after = IsSearchNoted held explore [] explore.window judgement old new before after
-ExploreNoted false true judgement held explore old new before after = SampleRefusals held explore explore.sample old new (IsToldBy judgement before after)
-ExploreNoted false false judgement held explore old new before after = ExplorationRefusals held explore old new (IsToldBy judgement before after)
+-- by how many events a message is sent, if one is looked for; where the outcomes that were printed are allowed nothing, and else a beginning of the lines that tell which ones aren't; under the memory model, where what shows them was written, behind a beginning of what is told of their traces
+abbrev pub ExploreNoted : (until : Option MessagePattern) → (architecture sampled : Bool) → Judgement → Contents → Seeking → (old new before after : Option (List ℕ)) → Type 0
+ExploreNoted (Some message) architecture sampled judgement held explore old new before after = IsWayNoted held explore message old new before after
+ExploreNoted None true sampled judgement held explore old new before after = IsSearchNoted held explore [] explore.window judgement old new before after
+ExploreNoted None false true judgement held explore old new before after = SampleRefusals held explore explore.sample old new (IsToldBy judgement before after)
+ExploreNoted None false false judgement held explore old new before after = ExplorationRefusals held explore old new (IsToldBy judgement before after)
 
 abbrev pub ShowNoted : (architecture : Bool) → Judgement → Contents → Showing → (old new before after : Option (List ℕ)) → Type 0
 ShowNoted true judgement held show old new before after = IsSearchNoted held show.explore show.words.items show.explore.window judgement old new before after
@@ -164,21 +169,21 @@ ShowNoted false judgement held show old new before after = WordRefusals held sho
 -- what a command that was carried out has itself put on standard error, beside what is remarked of files: of a replay and of a run a beginning of how their harts ended; of an explanation, a chart, a page and an audit of orderings nothing; of an exploration what tells which outcomes aren't allowed
 abbrev pub IsNoted : Contents → Contents → (old new before after : Option (List ℕ)) → Judgement → Settings → Type 0
 IsNoted held left old new before after judgement (Replay replay) = IsReplayEndTold held replay before after
-IsNoted held left old new before after judgement (Run run) = IsRunEndTold held left run before after
+IsNoted held left old new before after judgement (Run run) = IsRunEndTold held left run judgement before after
 IsNoted held left old new before after judgement (Explain explain) = after ≡ before
 IsNoted held left old new before after judgement (Chart chart) = after ≡ before
 IsNoted held left old new before after judgement (Page replay) = after ≡ before
 IsNoted held left old new before after judgement (Fences audit) = after ≡ before
 IsNoted held left old new before after judgement (Check check) = CheckNoted judgement check.messages before after
-IsNoted held left old new before after judgement (Explore explore) = ExploreNoted explore.architecture (nat_lt 0 explore.sample) judgement held explore old new before after
+IsNoted held left old new before after judgement (Explore explore) = ExploreNoted (message_in explore.until) explore.architecture (nat_lt 0 explore.sample) judgement held explore old new before after
 IsNoted held left old new before after judgement (Show show) = ShowNoted show.explore.architecture judgement held show old new before after
 
--- the trace's order, or its messages, are not legal, and the fault that shows it was printed; or the program was explored and an outcome is not allowed
+-- the trace's order, or its messages, are not legal, and the fault that shows it was printed; or the program was explored and an outcome is not allowed, or no random run sends a message; or a hart of a run stopped that may not
 abbrev pub IsFaulty : Contents → Contents → Option (List ℕ) → Option (List ℕ) → Settings → Type 0
 IsFaulty held left old new (Replay replay) = ⊥
 IsFaulty held left old new (Explain explain) = ⊥
-IsFaulty held left old new (Run run) = ⊥
-IsFaulty held left old new (Explore explore) = ExploreCame explore.architecture (nat_lt 0 explore.sample) NotAllowed held left explore old new
+IsFaulty held left old new (Run run) = IsRun held left run NotAllowed old new
+IsFaulty held left old new (Explore explore) = ExploreCame (message_in explore.until) explore.architecture (nat_lt 0 explore.sample) NotAllowed held left explore old new
 IsFaulty held left old new (Show show) = ShowCame show.explore.architecture NotAllowed held left show old new
 IsFaulty held left old new (Chart chart) = ⊥
 IsFaulty held left old new (Page replay) = ⊥
@@ -195,7 +200,7 @@ abbrev pub IsHalfPrinted : Contents → Contents → Option (List ℕ) → Optio
 IsHalfPrinted held left old new (Replay replay) = IsCutOff held replay old new
 IsHalfPrinted held left old new (Explain explain) = ExplainBroke explain.vcd held explain old new
 IsHalfPrinted held left old new (Run run) = IsRunCutOff held left run old new
-IsHalfPrinted held left old new (Explore explore) = ExploreHas explore.architecture (nat_lt 0 explore.sample) held explore (Begins old new)
+IsHalfPrinted held left old new (Explore explore) = ExploreHas (message_in explore.until) explore.architecture (nat_lt 0 explore.sample) held explore (Begins old new)
 IsHalfPrinted held left old new (Show show) = ShowHas show.explore.architecture held show (Begins old new)
 IsHalfPrinted held left old new (Chart chart) = IsHalfCharted held chart.replay chart.line old new
 IsHalfPrinted held left old new (Page replay) = IsHalfPaged held replay old new
@@ -242,12 +247,12 @@ MeetsSomeState (Show show) = 0 < show.explore.states
 MeetsSomeState (Fences audit) = 0 < audit.fences.states
 MeetsSomeState _ = Unit {0}
 
--- the file is the journal of a run, and not its program, or shows an outcome of an exploration, or how it gets stuck, or has the program with the orderings that are enough
+-- the file is the journal of a run, and not its program, or shows an outcome of an exploration, or how it gets stuck, or has the program with the orderings that are enough, or shows what is lost without one that is needed
 abbrev pub IsWritten : Text → Settings → Type 0
 IsWritten name (Run run) = (name ≡ run.journal.now) × (name ≢ run.image.now)
 IsWritten name (Explore explore) = IsExploreFile explore.architecture explore name
 IsWritten name (Show show) = IsExploreFile show.explore.architecture show.explore name
-IsWritten name (Fences audit) = IsProgramFile audit.fences.write name
+IsWritten name (Fences audit) = IsFencesFile audit.fences name
 IsWritten name _ = ⊥
 
 -- no file but the journal, the scripts and traces, or the program with other orderings, of what the words name is another than before

@@ -3,6 +3,7 @@ use Rattle.std.specs.Prelude.{◌≡◌, ℕ, List, Option, Some, true, is_some}
 use Rattle.std.specs.Io.KnownBytes.{Appends}
 use Rattle.command_files.specs.Contents.{Contents}
 use Rattle.script_commands.specs.Replaying.{IsReplayed}
+use Rattle.command_files.specs.declared.allowing.Judgement.{Judgement}
 use Rattle.run_command.specs.Running.{IsRun}
 use Rattle.command_settings.specs.declared.wanted.Replay.{Replay}
 use Rattle.command_settings.specs.declared.wanted.Run.{Run}
@@ -26,5 +27,5 @@ pub record PrintSame (old new before after : Option (List ℕ)) : Type 0 where
 
 -- where a run has left its journal and printed its trace, a replay of that journal prints the same
 abbrev pub RunsReplay : Type 0
-RunsReplay = (held left : Contents) (run : Run) (replay : Replay) (old new before after : Option (List ℕ))
-    → IsOfRun held left run replay → IsRun held left run old new → IsReplayed left replay before after → PrintSame old new before after
+RunsReplay = (held left : Contents) (run : Run) (judgement : Judgement) (replay : Replay) (old new before after : Option (List ℕ))
+    → IsOfRun held left run replay → IsRun held left run judgement old new → IsReplayed left replay before after → PrintSame old new before after

@@ -1,5 +1,5 @@
 -- Which fault tells why what the words ask for was not done.
-use Rattle.std.specs.Prelude.{◌≡◌, ◌≢◌, ◌⊎◌, ℕ, [], Bool, true, false, nat_lt, List, Option}
+use Rattle.std.specs.Prelude.{◌≡◌, ◌≢◌, ◌⊎◌, ℕ, [], Bool, true, false, nat_lt, List, None, Option, Some}
 use Rattle.clap.specs.Words.{Text}
 use Rattle.explore_command.specs.Searching.{IsSearchFault, IsSearchNoted}
 use Rattle.explore_command.specs.Sampling.{SampleRefusals}
@@ -15,7 +15,7 @@ use Rattle.command_files.specs.declared.fault.Fault.{Fault}
 use Rattle.command_files.specs.declared.fault.Fault.TheVariants.{OutOfMemory}
 use Rattle.command_line.specs.Running.{AreMisused, ExploreHas, HasNamed, ShowHas, IsHalfPrinted, skips, strictness_of}
 use Rattle.command_settings.specs.Refusals.{IsForHelp, IsUnfit}
-use Rattle.command_settings.specs.Settings.{AreConflicting}
+use Rattle.command_settings.specs.Settings.{AreConflicting, message_in}
 use Rattle.command_settings.specs.declared.wanted.Check.{Check as Judging}
 use Rattle.command_settings.specs.declared.wanted.Explain.{Explain as Telling}
 use Rattle.command_settings.specs.declared.wanted.Explore.{Explore as Seeking}
@@ -23,6 +23,7 @@ use Rattle.command_settings.specs.declared.wanted.Settings.{Settings}
 use Rattle.command_settings.specs.declared.wanted.Settings.TheVariants.{Chart, Check, Explain, Explore, Fences, Page, Replay, Run, Show}
 use Rattle.command_settings.specs.declared.wanted.Show.{Show as Showing}
 use Rattle.fences_command.specs.Fencing.{AuditHas, IsFencesFault}
+use Rattle.message_pattern.specs.declared.pattern.MessagePattern.{MessagePattern}
 use Rattle.script_commands.specs.Explaining.{LeavesOfStream}
 use Rattle.trace_commands.specs.Kinds.{IsTellingFault}
 use Rattle.trace_commands.specs.Pages.{IsPageFault, LeavesOfPage}
@@ -66,7 +67,7 @@ IsFaultOfCommand held old new (Check check) = IsJudgingFault check.messages held
 -- each command says what its faults leave on standard output
 abbrev pub LeavesOf : Contents → Contents → Option (List ℕ) → Option (List ℕ) → Settings → Fault → Type 0
 LeavesOf held left old new (Explain explain) fault = LeavesOfExplaining explain.vcd fault old new (IsHalfPrinted held left old new (Explain explain))
-LeavesOf held left old new (Explore explore) fault = LeavesPart fault old new (ExploreHas explore.architecture (nat_lt 0 explore.sample) held explore)
+LeavesOf held left old new (Explore explore) fault = LeavesPart fault old new (ExploreHas (message_in explore.until) explore.architecture (nat_lt 0 explore.sample) held explore)
 LeavesOf held left old new (Show show) fault = LeavesPart fault old new (ShowHas show.explore.architecture held show)
 LeavesOf held left old new (Replay replay) fault = LeavesAtFault fault old new (IsHalfPrinted held left old new (Replay replay))
 LeavesOf held left old new (Run run) fault = LeavesAtFault fault old new (IsHalfPrinted held left old new (Run run))
@@ -83,11 +84,12 @@ ComesBeforeFiles (Show show) fault = ComesBeforeScripts fault
 ComesBeforeFiles (Fences audit) fault = ComesBeforeScripts fault
 ComesBeforeFiles _ fault = Unit {0}
 
--- what tells which outcomes of an exploration aren't allowed, or a beginning of it; under the memory model, behind what is told of their traces
-abbrev pub AreJudged : (architecture sampled : Bool) → Contents → Seeking → (old new before after : Option (List ℕ)) → Type 0
-AreJudged true sampled held explore old new before after = IsSearchNoted held explore [] explore.window NotAllowed old new before after
-AreJudged false true held explore old new before after = SampleRefusals held explore explore.sample old new (Begins before after)
-AreJudged false false held explore old new before after = ExplorationRefusals held explore old new (Begins before after)
+-- what tells which outcomes of an exploration aren't allowed, or a beginning of it; under the memory model, behind what is told of their traces; nothing of a message that was looked for
+abbrev pub AreJudged : (until : Option MessagePattern) → (architecture sampled : Bool) → Contents → Seeking → (old new before after : Option (List ℕ)) → Type 0
+AreJudged (Some message) architecture sampled held explore old new before after = ⊥
+AreJudged None true sampled held explore old new before after = IsSearchNoted held explore [] explore.window NotAllowed old new before after
+AreJudged None false true held explore old new before after = SampleRefusals held explore explore.sample old new (Begins before after)
+AreJudged None false false held explore old new before after = ExplorationRefusals held explore old new (Begins before after)
 
 -- the same with words of memory
 abbrev pub AreWordsJudged : (architecture : Bool) → Contents → Showing → (old new before after : Option (List ℕ)) → Type 0
@@ -100,7 +102,7 @@ IsQuietAt fault before after judged = (ComesBeforeScripts fault → after ≡ be
 
 -- before its fault a command puts nothing else on standard error
 abbrev pub IsNotedAt : Contents → (old new before after : Option (List ℕ)) → Settings → Fault → Type 0
-IsNotedAt held old new before after (Explore explore) fault = IsQuietAt fault before after (AreJudged explore.architecture (nat_lt 0 explore.sample) held explore old new before after)
+IsNotedAt held old new before after (Explore explore) fault = IsQuietAt fault before after (AreJudged (message_in explore.until) explore.architecture (nat_lt 0 explore.sample) held explore old new before after)
 IsNotedAt held old new before after (Show show) fault = IsQuietAt fault before after (AreWordsJudged show.explore.architecture held show old new before after)
 IsNotedAt held old new before after _ fault = after ≡ before
 

@@ -5,7 +5,7 @@ ghost use Rattle.clap.specs.Words.{Text};
 ghost use Rattle.command_files.specs.Faults.{LeavesAtFault, Name};
 ghost use Rattle.command_files.specs.Sizes.{IsOutside};
 ghost use Rattle.command_files.specs.Status.{status_of};
-ghost use Rattle.command_settings.specs.Settings.{asks_tilelink};
+ghost use Rattle.command_settings.specs.Settings.{asks_tilelink, message_in};
 ghost use Rattle.command_line.specs.Telling.{AreJudged, AreWordsJudged, ComesBeforeFiles, IsExplainingFault, IsFaultOfCommand, IsJudgingFault, IsNotedAt, IsShowingFault, LeavesOf, LeavesOfExplaining};
 ghost use Rattle.command_line.specs.Running.{Came, CheckCame, CheckNoted, ExplainBroke, ExplainCame, ExploreCame, ExploreHas, ExploreNoted, MeetsSomeState, IsOutOfRange, IsCheckBroken, IsExploreFile, IsNoted, IsWritten, ShowCame, ShowHas, ShowNoted, ShowsElsewhere, message_check_of, profile_of, skips, strictness_of, tells_all};
 ghost use Rattle.explore_command.specs.Exploring.{ComesBeforeScripts, IsExploreFault, LeavesPart};
@@ -15,7 +15,7 @@ ghost use Rattle.explore_command.specs.Showing.{IsFirstOf};
 use command_files::event_stream::Strictness;
 use command_files::{Fault, Files, Judgement, Unshown};
 use command_settings::{Breaches, Check, Explain, Explore, OtherOpcodes, Settings, Show};
-use explore_command::{architecture_files, explore_files, sample_files, show_files};
+use explore_command::{architecture_files, explore_files, sample_files, show_files, until_files};
 use fences_command::fences_files;
 use message_judge::{MessageVerdict, Profile};
 use progress_line::Progress;
@@ -30,7 +30,8 @@ use trace_commands::check_command::{MessageCheck, check_file, check_messages};
 use trace_commands::{explain_files, page_files};
 
 /// Carries out what the words ask for. What it answers is not allowed where an order or messages aren't
-/// legal, or an outcome isn't one that is allowed.
+/// legal, an outcome isn't one that is allowed, a hart of a run stopped that may not, or a message that was looked for isn't
+/// sent.
 pub(crate) fn carry_out<
     'a,
     R: Threads + Wait + Sync,
@@ -76,13 +77,10 @@ pub(crate) fn carry_out<
             page_files(alloc, files, replay, out)?;
             Ok(Judgement::Allowed)
         }
-        Settings::Run(run) => {
-            run_files(rt, alloc, files, run, out, err, progress)?;
-            Ok(Judgement::Allowed)
-        }
+        Settings::Run(run) => run_files(rt, alloc, files, run, out, err, progress),
         Settings::Explore(explore) => explored(alloc, files, explore, out, err, progress),
         Settings::Show(show) => shown(alloc, files, &show, out, err, progress),
-        Settings::Fences(audit) => fences_files(alloc, files, &audit, out, progress),
+        Settings::Fences(audit) => fences_files(rt, alloc, files, &audit, out, progress),
         Settings::Check(check) => checked(alloc, files, check, out, err),
     }
 }
@@ -108,7 +106,7 @@ fn explained<'a, F: Files, O: Write>(
     explain_files(alloc, files, wanted.replay, strictness, wanted.state, out)
 }
 
-/// The program's ends are looked for, by random runs, or under the memory model.
+/// The program's ends are looked for, by random runs, or under the memory model; or a message in random runs.
 fn explored<'a, F: Files, O: Write, E: Write, P: Progress>(
     alloc: Global,
     files: &mut F,
@@ -118,20 +116,23 @@ fn explored<'a, F: Files, O: Write, E: Write, P: Progress>(
     progress: &P,
 ) -> Result<Judgement, Fault<'a>>
     requires room { 0 < wanted.states }
-    ensures came { IfOk result (λ judgement. ExploreCame wanted.entry.architecture (nat_lt 0 wanted.entry.sample) judgement
+    ensures came { IfOk result (λ judgement. ExploreCame (message_in wanted.entry.until) wanted.entry.architecture (nat_lt 0 wanted.entry.sample) judgement
         (F.held files.old) (F.held files.new) wanted.entry (O.contents out.old) (O.contents out.new)) }
-    ensures noted { IfOk result (λ judgement. ExploreNoted wanted.entry.architecture (nat_lt 0 wanted.entry.sample) judgement
+    ensures noted { IfOk result (λ judgement. ExploreNoted (message_in wanted.entry.until) wanted.entry.architecture (nat_lt 0 wanted.entry.sample) judgement
         (F.held files.old) wanted.entry (O.contents out.old) (O.contents out.new) (E.contents err.old) (E.contents err.new)) }
     ensures outside { IsOutside wanted.entry.machine → result ≡ Err Fault.Configuration }
     ensures told { IfErr result (IsExploreFault (F.held files.old) wanted.entry) }
     ensures unfinished { IfErr result (λ fault. LeavesPart fault (O.contents out.old) (O.contents out.new)
-        (ExploreHas wanted.entry.architecture (nat_lt 0 wanted.entry.sample) (F.held files.old) wanted.entry)) }
+        (ExploreHas (message_in wanted.entry.until) wanted.entry.architecture (nat_lt 0 wanted.entry.sample) (F.held files.old) wanted.entry)) }
     ensures silent { IfErr result (λ fault. ComesBeforeScripts fault → E.contents err.new ≡ E.contents err.old) }
-    ensures judged_first { OnErr result ((E.contents err.new ≡ E.contents err.old) ⊎ AreJudged wanted.entry.architecture (nat_lt 0 wanted.entry.sample)
+    ensures judged_first { OnErr result ((E.contents err.new ≡ E.contents err.old) ⊎ AreJudged (message_in wanted.entry.until) wanted.entry.architecture (nat_lt 0 wanted.entry.sample)
         (F.held files.old) wanted.entry (O.contents out.old) (O.contents out.new) (E.contents err.old) (E.contents err.new)) }
     ensures spared { SparesOthers (IsExploreFile wanted.entry.architecture wanted.entry) (F.held files.old) (F.held files.new) }
     ensures untouched { IfErr result (λ fault. ComesBeforeScripts fault → F.held files.new ≡ F.held files.old) }
 {
+    if let Some(message) = wanted.message() {
+        return until_files(alloc, files, wanted, message, out, err, progress);
+    }
     if wanted.architecture {
         let window = wanted.window;
         return architecture_files(alloc, files, wanted, &[], window, out, err, progress);

@@ -17,13 +17,14 @@ use std::io::Write;
 use std::sync::Wait;
 use std::thread::Threads;
 
-/// The status where the order or the messages are not legal, or an outcome not allowed.
+/// The status where the order or the messages are not legal, an outcome is not allowed, a hart of a run stopped that may
+/// not, or no run sends a message.
 const NOT_LEGAL: u8 = 3;
 
 /// Does what the words ask for, the first of which is the program's name, and answers the exit status:
 /// 0 done or legal, 1 for files, streams, threads and what files hold, 2 for words that don't fit the usage
 /// or don't go together (as `--show` with `--sample`), for a machine that can't be and for `--line` of no address, 3 for an order or messages that are not legal, or an
-/// outcome that is not allowed, 4 out of memory. A message that standard error does not take is lost. A command
+/// outcome that is not allowed, a hart of a run that stopped and may not, or a message that no run sends, 4 out of memory. A message that standard error does not take is lost. A command
 /// that takes long tells `progress` how far it is. It may wait for threads.
 pub fn run_line<
     R: Threads + Wait + Sync,

@@ -1,9 +1,9 @@
 //! The program's last write: a status that says that all was printed comes behind it.
 
-ghost use Rattle.std.specs.Prelude.{◌≡◌, ◌≢◌, ◌⊎◌, []};
+ghost use Rattle.std.specs.Prelude.{◌≡◌, ◌⊎◌, [], map};
 ghost use Rattle.std.specs.Io.Buffered.{writer_buffer, writer_contents};
 ghost use Rattle.std.specs.Io.KnownBytes.{Keeps};
-ghost use Rattle.command_files.specs.Messages.{IsLost};
+ghost use Rattle.rvtl.specs.Delivered.{IsDelivered, IsStatusOf};
 
 use command_files::{Files, tell_lost};
 use command_line::run_program;
@@ -19,8 +19,9 @@ const DONE: u8 = 0;
 /// The status of what was judged, and isn't legal, or not allowed.
 const NOT_LEGAL: u8 = 3;
 
-/// Does what the words ask for, the first of which is the program's name, and answers the exit status: 0 or 3 only where
-/// all that was printed has reached the writer behind the buffer.
+/// Does what the words ask for, the first of which is the program's name, as `run_program` says, and answers the exit
+/// status: the command's own, 0 or 3 only where all that was printed has reached the writer behind the buffer. Where that
+/// took no more, it is told, with status 1, or 4 for want of memory.
 pub fn run_whole<
     R: Threads + Wait + Sync + AllocGlobal,
     S: AsStr,
@@ -30,6 +31,7 @@ pub fn run_whole<
     P: Progress + Sync,
 >(rt: &R, words: &[S], files: &mut F, out: &mut BufWriter<O>, err: &mut E, progress: &P) -> u8
     ensures reached { (result ≡ 0) ⊎ (result ≡ 3) → writer_buffer out.new ≡ [] }
+    ensures done { IsDelivered (map S.text words.now) (F.held files.old) (F.held files.new) (writer_contents O.contents out.old) (writer_contents O.contents out.new) (E.contents err.old) (E.contents err.new) result }
 {
     let status = run_program(rt, rt.alloc(), words, files, out, err, progress);
     delivered(status, out, err)
@@ -39,10 +41,7 @@ pub fn run_whole<
 fn delivered<O: Write + Drop, E: Write>(status: u8, out: &mut BufWriter<O>, err: &mut E) -> u8
     ensures reached { (result ≡ 0) ⊎ (result ≡ 3) → writer_buffer out.new ≡ [] }
     ensures kept { Keeps (writer_contents O.contents out.old) (writer_contents O.contents out.new) }
-    ensures same { (result ≡ status) ⊎ ((result ≡ 1) ⊎ (result ≡ 4)) }
-    ensures faulted { status ≢ 0 → status ≢ 3 → result ≡ status }
-    ensures silent { result ≡ status → E.contents err.new ≡ E.contents err.old }
-    ensures lost { result ≢ status → IsLost (E.contents err.old) (E.contents err.new) result }
+    ensures of_command { IsStatusOf status (E.contents err.old) (E.contents err.new) result }
 {
     if status != DONE && status != NOT_LEGAL {
         return status;

@@ -26,25 +26,23 @@ use std::time::Clock;
 /// How many bytes of stack the program has, whatever the system gives the process.
 const STACK: usize = 8 << 20;
 
+/// How many it has where these aren't to be had: many times what commands were measured to take.
+const SMALL_STACK: usize = 1 << 20;
+
 /// The status where memory ended.
 const OUT_OF_MEMORY: u8 = 4;
 
 fn main(rt: HostRuntime) -> ExitCode {
     let rt = &rt;
-    let started = thread::scope(
-        thread::scope_env(),
-        rt,
-        |scope| -> io::Result<io::Result<u8>> {
-            let own = Builder::new().stack_size(STACK);
-            let program = own.spawn_scoped(scope, move || run(rt, rt.stdout(), rt.stderr()))?;
-            Ok(program.join(rt))
-        },
-    );
+    let started = match run_on(rt, STACK, rt.stdout(), rt.stderr()) {
+        Err(_) => run_on(rt, SMALL_STACK, rt.stdout(), rt.stderr()),
+        ended => ended,
+    };
     let Ok(ended) = started else {
         let _ = eprintln!(rt; "rvtl: out of memory");
         let _ = eprintln!(rt;
             "note: no thread with a stack of {} KiB was to be had",
-            STACK / 1024
+            SMALL_STACK / 1024
         );
         return ExitCode::from(OUT_OF_MEMORY);
     };
@@ -58,6 +56,23 @@ fn main(rt: HostRuntime) -> ExitCode {
     code_of(ended)
 }
 
+/// Runs the program in a thread with a stack of so many bytes; it errs where none is to be had.
+fn run_on<
+    R: Clock + Env + Eprint + Files + Input + Threads + Wait + Sync + AllocGlobal,
+    O: Write + Drop + Send,
+    E: Write + IsTerminal + Drop + Send,
+>(rt: &R, stack: usize, out: O, err: E) -> io::Result<io::Result<u8>> {
+    thread::scope(
+        thread::scope_env(),
+        rt,
+        move |scope| -> io::Result<io::Result<u8>> {
+            let own = Builder::new().stack_size(stack);
+            let program = own.spawn_scoped(scope, move || run(rt, out, err))?;
+            Ok(program.join(rt))
+        },
+    )
+}
+
 fn run<
     R: Clock + Env + Eprint + Files + Input + Threads + Wait + Sync + AllocGlobal,
     O: Write + Drop,
@@ -65,11 +80,7 @@ fn run<
 >(rt: &R, out: O, err: E) -> io::Result<u8> {
     let alloc = rt.alloc();
     let words = told(alloc, env::args(rt)?.collect(alloc)?)?;
-    let progress = if err.is_terminal() {
-        ProgressLine::start(rt).ok()
-    } else {
-        None
-    };
+    let progress = ProgressLine::start(rt, err.is_terminal()).ok();
     let lost = Cell::new(None);
     let mut out = BufWriter::new(alloc, Output::new(out, &lost))?;
     let mut err = Messages::new(err, &lost);

@@ -1,8 +1,8 @@
 use Rattle.std.proofs.Common.{refl, subst, sym}
 use Rattle.command_files.proofs.Left.{handed_up}
-use Rattle.command_line.proofs.Carried.{all_noted, all_stay, all_told_of, check_beyond, check_came, check_silent, explore_beyond, explore_came, explore_silent, explore_written, fences_beyond, fences_came, fences_noted, fences_silent, fences_written, noted_at, show_beyond, show_came, show_silent, show_written, stay_of, told_of}
-use Rattle.command_line.proofs.Meant.{beyond_run, journal_alone, no_address, unwritten}
-use Rattle.command_line.proofs.Leaving.{all_left_of, as_told, chart_inside, chart_outside, check_inside, check_outside, explore_inside, explore_outside, fences_inside, fences_outside, left_of, show_inside, show_outside}
+use Rattle.command_line.proofs.Carried.{all_noted, all_stay, all_told_of, check_beyond, check_came, check_silent, explore_beyond, explore_came, explore_silent, explore_written, fences_beyond, fences_came, fences_noted, fences_silent, fences_written, noted_at, run_beyond, run_came, run_silent, show_beyond, show_came, show_silent, show_written, stay_of, told_of}
+use Rattle.command_line.proofs.Meant.{journal_alone, no_address, unwritten}
+use Rattle.command_line.proofs.Leaving.{all_left_of, as_told, chart_inside, chart_outside, check_inside, check_outside, explore_inside, explore_outside, fences_inside, fences_outside, left_of, run_inside, run_outside, show_inside, show_outside}
 use Rattle.command_line.specs.Running.{IsOutOfRange, IsDone, IsNoted, IsWritten}
 use Rattle.command_line.specs.Telling.{ComesBeforeFiles}
 use Rattle.trace_commands.proofs.Paged.{page_never_misused}
@@ -87,23 +87,35 @@ returns-in_err-chart_files-in-Chart-clause-outside g c = handed_up _ c.from_resi
 pub returns-in_err-chart_files-in-Chart-clause-beyond : goal.returns-in_err-chart_files-in-Chart-clause-beyond
 returns-in_err-chart_files-in-Chart-clause-beyond g c = handed_up _ c.from_residual-in_err-chart_files-in-Chart.result _ c.from_residual-in_err-chart_files-in-Chart.ensures.1 (λ two. let it = c.in_err-chart_files-in-Chart.ensures.misused two in (subst IsOutOfRange (sym c.in-Chart.is) (no_address _ _ it.0), it.1))
 
-pub returns-in_ok-run_files-in-Run-clause-came : goal.returns-in_ok-run_files-in-Run-clause-came
-returns-in_ok-run_files-in-Run-clause-came g c = subst (IsDone _ _ _ _) (sym c.in-Run.is) c.in_ok-run_files-in-Run.ensures.ran
+pub returns-in-Run-clause-came : goal.returns-in-Run-clause-came
+returns-in-Run-clause-came g c = run_came _ _ _ _ _ c.in-Run.run' c.run_files.result c.in-Run.is c.run_files.ensures.ran
 
-pub returns-in_ok-run_files-in-Run-clause-spared : goal.returns-in_ok-run_files-in-Run-clause-spared
-returns-in_ok-run_files-in-Run-clause-spared g c = λ name changed. subst (IsWritten name) (sym c.in-Run.is) (journal_alone _ _ _ _ c.in_ok-run_files-in-Run.ensures.spared c.in_ok-run_files-in-Run.ensures.image name changed)
+pub returns-in-Run-clause-leaves : goal.returns-in-Run-clause-leaves
+returns-in-Run-clause-leaves g c = all_left_of _ _ _ _ _ _ c.run_files.result c.in-Run.is c.run_files.ensures.unfinished
 
-pub returns-in_err-run_files-in-Run-clause-spared : goal.returns-in_err-run_files-in-Run-clause-spared
-returns-in_err-run_files-in-Run-clause-spared g c = λ name changed. subst (IsWritten name) (sym c.in-Run.is) (journal_alone _ _ _ _ c.in_err-run_files-in-Run.ensures.spared c.in_err-run_files-in-Run.ensures.image name changed)
+pub returns-in-Run-clause-outside : goal.returns-in-Run-clause-outside
+returns-in-Run-clause-outside g c = run_outside _ c.in-Run.run' c.run_files.result c.in-Run.is c.run_files.ensures.outside
 
-pub returns-in_err-run_files-in-Run-clause-leaves : goal.returns-in_err-run_files-in-Run-clause-leaves
-returns-in_err-run_files-in-Run-clause-leaves g c = handed_up _ c.from_residual-in_err-run_files-in-Run.result _ c.from_residual-in_err-run_files-in-Run.ensures.1 (left_of _ _ _ _ _ _ _ c.in-Run.is c.in_err-run_files-in-Run.ensures.unfinished)
+pub returns-in-Run-clause-inside : goal.returns-in-Run-clause-inside
+returns-in-Run-clause-inside g c = run_inside _ c.in-Run.run' c.run_files.result c.in-Run.is c.run_files.ensures.outside
 
-pub returns-in_err-run_files-in-Run-clause-outside : goal.returns-in_err-run_files-in-Run-clause-outside
-returns-in_err-run_files-in-Run-clause-outside g c = handed_up _ c.from_residual-in_err-run_files-in-Run.result _ c.from_residual-in_err-run_files-in-Run.ensures.1 (λ out. as_told _ _ (c.in_err-run_files-in-Run.ensures.outside (subst IsOutOfRange c.in-Run.is out)) refl)
+pub returns-in-Run-clause-beyond : goal.returns-in-Run-clause-beyond
+returns-in-Run-clause-beyond g c = run_beyond _ _ _ _ c.in-Run.run' _ c.run_files.result c.in-Run.is c.run_files.ensures.told c.run_files.ensures.unfinished
 
-pub returns-in_err-run_files-in-Run-clause-beyond : goal.returns-in_err-run_files-in-Run-clause-beyond
-returns-in_err-run_files-in-Run-clause-beyond g c = handed_up _ c.from_residual-in_err-run_files-in-Run.result _ c.from_residual-in_err-run_files-in-Run.ensures.1 (λ two. let it = beyond_run _ _ _ c.in-Run.run' _ _ c.in_err-run_files-in-Run.ensures.told c.in_err-run_files-in-Run.ensures.unfinished two in (subst IsOutOfRange (sym c.in-Run.is) it.0, it.1))
+pub returns-in-Run-clause-spared : goal.returns-in-Run-clause-spared
+returns-in-Run-clause-spared g c = λ name changed. subst (IsWritten name) (sym c.in-Run.is) (journal_alone _ _ _ _ c.run_files.ensures.spared c.run_files.ensures.image name changed)
+
+pub returns-in-Run-clause-told : goal.returns-in-Run-clause-told
+returns-in-Run-clause-told g c = all_told_of _ _ _ _ _ c.run_files.result c.in-Run.is c.run_files.ensures.told
+
+pub returns-in-Run-clause-untouched : goal.returns-in-Run-clause-untouched
+returns-in-Run-clause-untouched g c = stay_of _ _ _ _ c.run_files.result c.in-Run.is c.run_files.ensures.untouched
+
+pub returns-in-Run-clause-noted : goal.returns-in-Run-clause-noted
+returns-in-Run-clause-noted g c = all_noted _ _ _ _ _ _ _ _ c.run_files.result c.in-Run.is c.run_files.ensures.ends
+
+pub returns-in-Run-clause-silent : goal.returns-in-Run-clause-silent
+returns-in-Run-clause-silent g c = run_silent _ _ _ _ _ _ c.in-Run.run' c.run_files.result c.in-Run.is c.run_files.ensures.silent
 
 pub returns-in-Explore-clause-came : goal.returns-in-Explore-clause-came
 returns-in-Explore-clause-came g c = explore_came _ _ _ _ _ c.in-Explore.explore c.explored.result c.in-Explore.is c.explored.ensures.came
@@ -145,9 +157,6 @@ returns-in_err-explained-in-Explain-clause-told g c = handed_up _ c.from_residua
 pub returns-in_err-chart_files-in-Chart-clause-told : goal.returns-in_err-chart_files-in-Chart-clause-told
 returns-in_err-chart_files-in-Chart-clause-told g c = handed_up _ c.from_residual-in_err-chart_files-in-Chart.result _ c.from_residual-in_err-chart_files-in-Chart.ensures.1 (told_of _ _ _ _ _ _ c.in-Chart.is c.in_err-chart_files-in-Chart.ensures.told)
 
-pub returns-in_err-run_files-in-Run-clause-told : goal.returns-in_err-run_files-in-Run-clause-told
-returns-in_err-run_files-in-Run-clause-told g c = handed_up _ c.from_residual-in_err-run_files-in-Run.result _ c.from_residual-in_err-run_files-in-Run.ensures.1 (told_of _ _ _ _ _ _ c.in-Run.is c.in_err-run_files-in-Run.ensures.told)
-
 pub returns-in-Explore-clause-told : goal.returns-in-Explore-clause-told
 returns-in-Explore-clause-told g c = all_told_of _ _ _ _ _ c.explored.result c.in-Explore.is c.explored.ensures.told
 
@@ -182,9 +191,6 @@ returns-in_ok-explained-in-Explain-clause-inside g c = λ out. absurd (subst IsO
 pub returns-in_ok-chart_files-in-Chart-clause-inside : goal.returns-in_ok-chart_files-in-Chart-clause-inside
 returns-in_ok-chart_files-in-Chart-clause-inside g c = λ out. chart_inside _ _ c.in_ok-chart_files-in-Chart.ensures.charted.named (subst IsOutOfRange c.in-Chart.is out)
 
-pub returns-in_ok-run_files-in-Run-clause-inside : goal.returns-in_ok-run_files-in-Run-clause-inside
-returns-in_ok-run_files-in-Run-clause-inside g c = λ out. let bad = c.in_ok-run_files-in-Run.ensures.outside (subst IsOutOfRange c.in-Run.is out) in cc
-
 pub returns-in-Explore-clause-inside : goal.returns-in-Explore-clause-inside
 returns-in-Explore-clause-inside g c = explore_inside _ c.in-Explore.explore c.explored.result c.in-Explore.is c.explored.ensures.outside
 
@@ -204,9 +210,6 @@ returns-in_err-explained-in-Explain-clause-untouched g c = handed_up _ c.from_re
 pub returns-in_err-chart_files-in-Chart-clause-untouched : goal.returns-in_err-chart_files-in-Chart-clause-untouched
 returns-in_err-chart_files-in-Chart-clause-untouched g c = handed_up _ c.from_residual-in_err-chart_files-in-Chart.result _ c.from_residual-in_err-chart_files-in-Chart.ensures.1 (λ early. c.in_err-chart_files-in-Chart.ensures.spared)
 
-pub returns-in_err-run_files-in-Run-clause-untouched : goal.returns-in_err-run_files-in-Run-clause-untouched
-returns-in_err-run_files-in-Run-clause-untouched g c = handed_up _ c.from_residual-in_err-run_files-in-Run.result _ c.from_residual-in_err-run_files-in-Run.ensures.1 (λ early. c.in_err-run_files-in-Run.ensures.untouched (subst (λ w. ComesBeforeFiles w c.in_err-run_files-in-Run.field-0.0) c.in-Run.is early))
-
 pub returns-in-Explore-clause-untouched : goal.returns-in-Explore-clause-untouched
 returns-in-Explore-clause-untouched g c = stay_of _ _ _ _ c.explored.result c.in-Explore.is c.explored.ensures.untouched
 
@@ -225,9 +228,6 @@ returns-in_ok-page_files-in-Page-clause-noted g c = subst (IsNoted _ _ _ _ _ _ _
 
 pub returns-in_ok-replay_files-in-Replay-clause-noted : goal.returns-in_ok-replay_files-in-Replay-clause-noted
 returns-in_ok-replay_files-in-Replay-clause-noted g c = subst (IsNoted _ _ _ _ _ _ _) (sym c.in-Replay.is) c.in_ok-replay_files-in-Replay.ensures.ends
-
-pub returns-in_ok-run_files-in-Run-clause-noted : goal.returns-in_ok-run_files-in-Run-clause-noted
-returns-in_ok-run_files-in-Run-clause-noted g c = subst (IsNoted _ _ _ _ _ _ _) (sym c.in-Run.is) c.in_ok-run_files-in-Run.ensures.ends
 
 pub returns-in_ok-explained-in-Explain-clause-noted : goal.returns-in_ok-explained-in-Explain-clause-noted
 returns-in_ok-explained-in-Explain-clause-noted g c = subst (IsNoted _ _ _ _ _ _ _) (sym c.in-Explain.is) refl
@@ -285,9 +285,6 @@ returns-in_err-chart_files-in-Chart-clause-silent g c = handed_up _ c.from_resid
 
 pub returns-in_err-page_files-in-Page-clause-silent : goal.returns-in_err-page_files-in-Page-clause-silent
 returns-in_err-page_files-in-Page-clause-silent g c = handed_up _ c.from_residual-in_err-page_files-in-Page.result _ c.from_residual-in_err-page_files-in-Page.ensures.1 (noted_at _ _ _ _ _ _ _ _ c.in-Page.is refl)
-
-pub returns-in_err-run_files-in-Run-clause-silent : goal.returns-in_err-run_files-in-Run-clause-silent
-returns-in_err-run_files-in-Run-clause-silent g c = handed_up _ c.from_residual-in_err-run_files-in-Run.result _ c.from_residual-in_err-run_files-in-Run.ensures.1 (noted_at _ _ _ _ _ _ _ _ c.in-Run.is c.in_err-run_files-in-Run.ensures.silent)
 
 pub returns-in-Explore-clause-silent : goal.returns-in-Explore-clause-silent
 returns-in-Explore-clause-silent g c = explore_silent _ _ _ _ _ _ c.in-Explore.explore c.explored.result c.in-Explore.is c.explored.ensures.silent c.explored.ensures.judged_first
