@@ -10,6 +10,7 @@ import re
 import resource
 import shutil
 import signal
+import struct
 import subprocess
 import sys
 import tempfile
@@ -150,11 +151,44 @@ def memory_ends(rvtl, folder):
     tell("memory ends in some of so many", 4 in statuses, statuses)
 
 
-def no_room_for_a_stack(rvtl):
-    """Where there is no memory for the program's stack, how much that takes is told."""
-    room = lambda: resource.setrlimit(resource.RLIMIT_AS, (8 << 20, 8 << 20))
-    ends("less memory than a stack takes", [rvtl, "--help"], 4,
-         ["rvtl: out of memory", "note: no thread with a stack of 8192 KiB was to be had"], preexec_fn=room)
+def little_room_for_a_stack(rvtl):
+    """Where there is no memory for the program's stack it has a smaller one, and where there isn't even that, how much it takes is told."""
+    def room(kib):
+        return lambda: resource.setrlimit(resource.RLIMIT_AS, (kib << 10, kib << 10))
+    ends("less memory than a stack takes", [rvtl, "replay", "--raw", IMAGE, SCRIPT], 0, ["hart 0: exit 5"], preexec_fn=room(8192))
+    ends("less memory than the smaller one takes", [rvtl, "--help"], 4,
+         ["rvtl: out of memory", "note: no thread with a stack of 1024 KiB was to be had"], preexec_fn=room(4096))
+
+
+def renamed(program, old, new):
+    """The ELF file with another name for a symbol, in a table of names at its end."""
+    sections, = struct.unpack_from("<I", program, 32)
+    size, count = struct.unpack_from("<HH", program, 46)
+    heads = [struct.unpack_from("<10I", program, sections + size * number) for number in range(count)]
+    symbols = next(head for head in heads if head[1] == 2)
+    start, length = heads[symbols[6]][4:6]
+    names = program[start:start + length]
+    made = bytearray(program + names + new + b"\0")
+    struct.pack_into("<II", made, sections + size * symbols[6] + 16, len(program), len(names) + len(new) + 1)
+    for at in range(symbols[4], symbols[4] + symbols[5], 16):
+        name, = struct.unpack_from("<I", program, at)
+        if names[name:names.index(b"\0", name)] == old:
+            struct.pack_into("<I", made, at, len(names))
+    return bytes(made)
+
+
+def long_names(rvtl, folder):
+    """A symbol is shown whose name has as many bytes as C++ gives it, of any letters, up to 4,096."""
+    with open(os.path.join(EXAMPLES, "lost_update.elf"), "rb") as file:
+        program = file.read()
+    named = os.path.join(folder, "named.elf")
+    for symbol in (b"_ZNSt6atomicIjE" + b"4lock" * 12, "zähler".encode() + b"x" * 4089):
+        with open(named, "wb") as file:
+            file.write(renamed(program, b"counter", symbol))
+        end = ran([rvtl, "explore", "--harts", "2", "--show", symbol, named])
+        last = end.stdout.splitlines()[:2]
+        tell(f"a symbol of {len(symbol)} bytes", end.returncode == 0 and [line.split(b"   ")[2] for line in last]
+             == [symbol + b" = 0x00000001", symbol + b" = 0x00000002"], end.stderr)
 
 
 def steering_words(rvtl):
@@ -175,6 +209,43 @@ def behind_a_limit(rvtl, folder):
     ends("harts at their limits", run, 0,
          ["hart 0: run", "hart 1: run",
           "note: harts 0 and 1 hadn't ended when a limit was met: 1000000 instructions of a hart"])
+
+
+def stopped(rvtl, folder):
+    """A build is told of a run in which a hart stopped, and of one in which none did."""
+    stop = os.path.join(folder, "stop.bin")
+    with open(stop, "wb") as file:
+        file.write((0x00100073).to_bytes(4, "little"))
+    run = [rvtl, "run", "--raw", "--fail-on", "stop", "--journal", os.path.join(folder, "stop.script")]
+    ends("a run that stops", [*run, stop], 3,
+         ["hart 0: stop 3", "a hart stopped (--fail-on stop)", "note: hart 0: stop 3 at 0x80000000: ebreak"])
+    ends("a run that doesn't", [*run, IMAGE], 0, ["hart 0: exit 5"])
+
+
+def until(rvtl):
+    """The script of the shortest way to a message is one that sends it."""
+    program = os.path.join(EXAMPLES, "store_buffering.elf")
+    explore = [rvtl, "explore", "--harts", "2", "--sample", "200", "--until"]
+    for message in ("ProbeAckData 1 *", "ReleaseAck * *"):
+        script = ran([*explore, message, program])
+        shown = ran([rvtl, "replay", program, "-"], input=script.stdout)
+        sent = [line.split()[1:5] for line in shown.stdout.decode().splitlines() if line.startswith("M s")]
+        name, hart, _ = message.split()
+        is_last = bool(sent) and sent[-1][3] == name and hart in ("*", sent[-1][2])
+        tell(f"a script until {message}", script.returncode == 0 and is_last, (script, sent))
+    ends("a message that no run sends", [*explore, "ReleaseData 1 0x80000800", program], 3,
+         ["none of 200 random runs sends the message (--until)"])
+
+
+def ended_by_the_clock(rvtl):
+    """A search ends after so many seconds, and what was found till then is told."""
+    program = os.path.join(EXAMPLES, "treiber_stack.elf")
+    for more in ([], ["--architecture"]):
+        begun = time.monotonic()
+        end = ran([rvtl, "explore", "--harts", "4", "--seconds", "1", *more, program])
+        last = end.stdout.decode().splitlines()[-1]
+        is_well = end.returncode == 0 and last.startswith("incomplete: ended by --seconds, ") and 1 <= time.monotonic() - begun < 5
+        tell(f"a search of a second {''.join(more)}", is_well, (time.monotonic() - begun, last))
 
 
 def too_much_to_draw(rvtl, folder):
@@ -318,7 +389,11 @@ def main():
         ends("a program without an end", [rvtl, "explore", "/dev/zero"], 1,
              ["rvtl: /dev/zero: cannot read", "note: it has more than 268435456 bytes, and no more is read"])
         steering_words(rvtl)
-        no_room_for_a_stack(rvtl)
+        little_room_for_a_stack(rvtl)
+        long_names(rvtl, folder)
+        stopped(rvtl, folder)
+        until(rvtl)
+        ended_by_the_clock(rvtl)
         behind_a_limit(rvtl, folder)
         another_order(rvtl, folder)
         too_much_to_draw(rvtl, folder)

@@ -10,7 +10,8 @@
 //!     |< NAME         the bytes of another file
 //!     ~ NAME OTHER    a file begins: the other one, a trace, with its first two P lines exchanged
 //!     @ NAME          a file begins: what the last command printed
-//!     $ WORDS         the command `rvtl WORDS`; `$-` where no file can be written
+//!     $ WORDS         the command `rvtl WORDS`, where what stands between two backquotes is one word; `$-` where no
+//!                     file can be written
 //!     < NAME          a file, as if a command had printed it
 //!     > TEXT          the next line of standard output
 //!     >- TEXT         it goes on so
@@ -45,12 +46,13 @@ use std::rt::Files;
 use std::sync::Wait;
 use std::thread::Threads;
 
-static TRANSCRIPTS: [&str; 10] = [
+static TRANSCRIPTS: [&str; 11] = [
     "replaying",
     "drawing",
     "explaining",
     "exploring",
     "fencing",
+    "fencing_examples",
     "judging",
     "litmus",
     "messages",

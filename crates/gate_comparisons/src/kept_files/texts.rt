@@ -11,7 +11,7 @@ pub fn lines_with(text: &str, words: &str) -> usize {
     count
 }
 
-/// These words of a command line, and behind them those of a text.
+/// These words of a command line, and behind them those of a text, of which what stands between two backquotes is one.
 pub fn words_of<'a>(
     alloc: Global,
     first: &[&'static str],
@@ -21,10 +21,23 @@ pub fn words_of<'a>(
     for word in first {
         words.push(*word)?;
     }
-    for word in asked.split(' ') {
+    let mut is_quoted = false;
+    for part in asked.split('`') {
+        if is_quoted {
+            words.push(part)?;
+        } else {
+            add_words(&mut words, part)?;
+        }
+        is_quoted = !is_quoted;
+    }
+    Ok(words)
+}
+
+fn add_words<'a>(words: &mut Vec<&'a str>, text: &'a str) -> Result<(), AllocError> {
+    for word in text.split(' ') {
         if !word.is_empty() {
             words.push(word)?;
         }
     }
-    Ok(words)
+    Ok(())
 }
