@@ -1,8 +1,10 @@
 #!/usr/bin/env python3
-"""Lists the definitions that the theorems rest on: of the headline, then what those on texts, on the flat memory and on the program add.
+"""Lists the definitions that the theorems rest on: of the headline, then what those on logs, on texts, on the flat memory and on the
+program add.
 
 usage: tools/definitions.py    from the top of the repository. Reads the `specs/` of all crates, follows the names that
-each definition uses, and prints module by module, each behind those that it uses, its definitions as they stand.
+each definition uses, and prints module by module, each behind those that it uses, its definitions as they stand; and at last
+what else stands in `specs/`, on which none of these theorems rests.
 """
 
 import re
@@ -11,6 +13,10 @@ from pathlib import Path
 HEADLINE = [
     ("machine_model", "Laws", "Headline"),
     ("machine_model", "Laws", "LogLawfulAlways"),
+]
+LOGS = [
+    ("machine_logs", "Laws", "MessagesLawfulAlways"),
+    ("machine_logs", "Laws", "LogTellsState"),
 ]
 TEXTS = [
     ("text_fields", "Writing", "Writes"),
@@ -27,46 +33,35 @@ TEXTS = [
 
 FLAT = [
     ("flat_model", "Laws", "ShownAlways"),
-    ("state_search", "Explored", "IsEachSuccessor"),
-    ("state_search", "Findings", "IsReal"),
-    ("state_search", "Findings", "AreReached"),
-    ("state_search", "Findings", "IsComplete"),
-    ("state_search", "Findings", "IsIncomplete"),
-    ("state_search", "Findings", "HasEachOutcome"),
-    ("state_search", "Findings", "NoneIsStuck"),
-    ("state_search", "Outcomes", "AreShown"),
-    ("state_search", "Ends", "AreStuck"),
     ("explorer", "Outcomes", "HasEachEnd"),
     ("explorer", "Outcomes", "CanAlwaysEnd"),
+    ("explorer", "Failures", "HasEachFailure"),
+    ("explorer", "Failures", "IsRealFailure"),
     ("flat_exploration", "Outcomes", "IsFlatOutcome"),
     ("explorer", "Ends", "IsRealIn"),
     ("explorer", "Stuck", "IsStuckIn"),
     ("explorer", "Visited", "AreVisited"),
     ("explorer", "Sampled", "AreCounted"),
     ("witnesses", "Witnesses", "IsWitness"),
-    ("window_search", "LeftOut", "MayBeDropped"),
-    ("window_search", "LeftOut", "rank"),
-    ("window_search", "LeftOut", "reach_of"),
-    ("window_search", "Openings", "MayBeEmpty"),
-    ("window_search", "Openings", "NeverOpens"),
+    ("window_model", "Complete", "TellsEachAllowed"),
     ("architecture_outcomes", "Outcomes", "IsWitnessed"),
     ("architecture_outcomes", "Outcomes", "TellsEachEnd"),
 ]
 PROGRAM = [
-    ("command_line", "Running", "IsCarriedOut"),
-    ("command_line", "Running", "IsNotLegal"),
-    ("command_line", "Running", "IsUnprinted"),
-    ("command_line", "Running", "HasNoted"),
-    ("command_line", "Running", "Spares"),
-    ("command_line", "Telling", "HasToldFault"),
-    ("command_settings", "Refusals", "IsUnfit"),
-    ("command_line", "Runs", "IsOfRun"),
+    ("command_line", "Program", "IsOfLine"),
+    ("command_line", "Runs", "RunsReplay"),
+    ("explore_command", "Passing", "PassingIsSafe"),
+]
+LITMUS = [
+    ("command_line", "Program", "IsOfLitmus"),
 ]
 
 NAME = r"[A-Za-z_][\w']*(?:-[\w'≤≡]+)*"
-HEAD = re.compile(rf"(?:abbrev |unfoldable )?(?:pub )?(?:record |data )?({NAME})")
+HEAD = re.compile(rf"(?:abbrev |unfoldable )?(?:pub )?(?:record |data )?(◌\S+|(?!pub |record |data ){NAME})")
+DECLARED = re.compile(r"(?:abbrev |unfoldable )?(?:pub )?(?:record |data |\S+ :)")
 CONSTANT = re.compile(r"^(?:pub )?const (\w+): [^=]+ = .*?;$", re.M | re.S)
 IMPORT = re.compile(r"^(?:pub )?use Rattle\.(\w+)\.specs\.([\w.]+)(?:\.\{([^}]*)\}| as (\w+))", re.M)
+PASSED_ON = re.compile(r"^pub use Rattle\.(\w+)\.specs\.([\w.]+?)(?: as (\w+))?$", re.M)
 
 
 def modules():
@@ -94,7 +89,8 @@ def modules():
             line = line.removeprefix("  ") if parameters else line
             if line and not line.startswith((" ", "--", "use ", "pub use ", "pub mod ", "infix")):
                 head = HEAD.match(line)
-                current = head[1] if head else current
+                if head and (head[1] in definitions or DECLARED.match(line)):
+                    current = head[1]
                 definitions.setdefault(current, parameters)
             if current and not line.lstrip().startswith("--"):
                 definitions[current] += line + "\n"
@@ -114,11 +110,38 @@ def constants():
     return found
 
 
-def rests_on(found, starts):
+def modules_passed_on():
+    """By (crate, name): the (crate, module) that a crate passes on by this name in its `Lib.antt`."""
+    passed = {}
+    for path in Path("crates").glob("*/specs/Lib.antt"):
+        for match in PASSED_ON.finditer(path.read_text(encoding="utf-8")):
+            passed[path.parts[1], match[3] or match[2].rpartition(".")[2]] = (match[1], match[2])
+    return passed
+
+
+def home_of(found, passed, crate, module, name):
+    """Where a name stands that is imported from there: in the module, in one that the crate passes on, or in one from which the
+    module itself has it. A variant stands with its type."""
+    while True:
+        if (crate, module) in found:
+            definitions, names, _ = found[crate, module]
+            if name in definitions or name not in names:
+                return crate, module, name
+            crate, module, name = names[name]
+        elif (crate, module) in passed:
+            crate, module = passed[crate, module]
+        else:
+            outer, _, inner = module.rpartition(".")
+            if not outer or inner in ("TheVariants", "TheImpl"):
+                return crate, module, name
+            module, name = outer, inner
+
+
+def rests_on(found, passed, starts):
     """The definitions that these rest on, themselves among them."""
     seen, left = set(), list(starts)
     while left:
-        crate, module, name = left.pop()
+        crate, module, name = home_of(found, passed, *left.pop())
         if (crate, module, name) in seen or name not in found.get((crate, module), ({},))[0]:
             continue
         seen.add((crate, module, name))
@@ -127,7 +150,9 @@ def rests_on(found, starts):
         for alias, member in re.findall(rf"(\w+)\.({NAME})", text):
             if alias in aliases:
                 left.append((*aliases[alias], member))
-        for word in re.findall(rf"(?<![\w.']){NAME}(?! [:=] )", text):
+        words = re.findall(rf"(?<![\w.']){NAME}(?! [:=] )", text)
+        operators = [each for each in (*definitions, *names) if each and each.startswith("◌") and each.strip("◌") in text]
+        for word in words + operators:
             left.append(names.get(word, (crate, module, word)))
     return seen
 
@@ -152,16 +177,27 @@ def in_order(found, used):
 
 
 def main():
-    found = modules()
+    found, passed = modules(), modules_passed_on()
     before = set()
-    lists = [("the headline", HEADLINE), ("the theorems on texts", TEXTS), ("the flat memory and exploring", FLAT), ("the program", PROGRAM)]
+    lists = [
+        ("the headline", HEADLINE),
+        ("the thirteen rules of messages", LOGS),
+        ("the theorems on texts", TEXTS),
+        ("the flat memory and exploring", FLAT),
+        ("the program", PROGRAM),
+        ("the program with litmus tests", LITMUS),
+    ]
     for title, starts in lists:
-        used = rests_on(found, starts) - before
+        used = rests_on(found, passed, starts) - before
         print(f"{title}: {len(used)} definitions" + (" more" if before else ""))
         for part in in_order(found, used):
             names = [name for name in found[part][0] if (*part, name) in used]
             print(f"  {part[0]} {part[1]}: " + ", ".join(names))
         before |= used
+    skipped = {(crate, module, name) for (crate, module), (names, _, _) in found.items() for name in names if name and not module.startswith("declared.")} - before
+    print(f"what may be skipped: {len(skipped)} definitions")
+    for part in sorted({(crate, module) for crate, module, _ in skipped}):
+        print(f"  {part[0]} {part[1]}: " + ", ".join(name for name in found[part][0] if (*part, name) in skipped))
 
 
 main()

@@ -7,10 +7,10 @@ crates.txt lists the crates by room: a line `# Room NAME: what it has`, and belo
 crates of its own room and of rooms above it in that list. The status is 1 where one doesn't, or stands there twice, and each
 is told.
 
-A way is a crate, one that it names in its line, one that this names, and so on. `rt ci` reads a crate's files once for each
-way that leads to it, for each library twice: 3,800,000 ways took it more than 4 hours. So a crate that wants little of
-another takes it by one that it stands on anyway, which passes it on (`pub use`), and the status is 1 where the libraries have
-more ways than WAYS."""
+A way is a crate, one that it names in its line, one that this names, and so on. `rt ci` walks each way that leads to a
+crate, and earlier ones read its files each time, for each library twice: 3,800,000 ways took it more than 4
+hours. So a crate that wants little of another takes it by one that it stands on anyway, which passes it on (`pub use`), and
+the status is 1 where the libraries have more ways than WAYS."""
 import collections
 import os
 import sys
