@@ -126,7 +126,7 @@ fn part_of(alloc: Global, test: &Test, names: &[Vec<u8>], hart: u8) -> Result<Pa
 
 /// What a test has for each hart, locations being of these names.
 #[tactic(auto, using(crate::proofs::Parting::one_more))]
-pub(crate) fn parts_of(
+pub fn parts_of(
     alloc: Global,
     test: &Test,
     names: &[Vec<u8>],
