@@ -1,5 +1,6 @@
 //! What ends the search under the model itself.
 
+ghost use Rattle.std.specs.Prelude.{◌≡◌, true};
 ghost use Rattle.explore_command.specs.Sought.{IsSoughtBy};
 
 use crate::architecture::seeking::FirstOutcome;
@@ -8,9 +9,15 @@ use flat_model::HartResult;
 use std::alloc::AllocError;
 
 impl Seek for FirstOutcome<'_, '_> {
+    ghost SeeksStops = { λ seek. seek.first.is_asked ≡ true };
+
     ghost IsSought = { λ seek outcome. IsSoughtBy seek.first.is_asked seek.first.names.now seek.first.allowed outcome };
 
     ghost IsTimed = { λ seek. ⊥ };
+
+    fn seeks_stops(&self) -> bool {
+        self.first.is_asked
+    }
 
     fn seeks_outcomes(&self) -> bool {
         self.first.is_asked

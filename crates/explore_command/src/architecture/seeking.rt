@@ -12,7 +12,7 @@ use explorer::{Outcome, Seek};
 use flat_model::HartResult;
 use std::alloc::{AllocError, Global};
 
-/// Seeks an outcome in which a hart has stopped, or that a text doesn't allow, where it is asked to.
+/// Seeks a hart that stops, and an outcome in which one has, or that a text doesn't allow, where it is asked to.
 #[derive(Drop)]
 pub(crate) struct FirstOutcome<'f, 'w> {
     pub(crate) first: First<'f, 'w>,
@@ -52,14 +52,14 @@ impl<'f, 'w> FirstOutcome<'f, 'w> {
 }
 
 impl Seek for FirstOutcome<'_, '_> {
-    ghost SeeksStops = { λ seek. ⊥ };
+    ghost SeeksStops = { λ seek. seek.first.is_asked ≡ true };
 
     ghost IsSought = { λ seek outcome. IsSoughtBy seek.first.is_asked seek.first.names.now seek.first.allowed outcome };
 
     ghost IsTimed = { λ seek. ⊥ };
 
     fn seeks_stops(&self) -> bool {
-        false
+        self.first.is_asked
     }
 
     fn seeks_outcomes(&self) -> bool {
