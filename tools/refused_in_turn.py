@@ -5,7 +5,8 @@ usage: tools/refused_in_turn.py [NAME..]      rows (row_10 ..) and commands (che
 
 Rows 10, 13, 18 and 34 are played by `gate_comparisons` event by event, as whole lists and on a fabric: whichever allocation is
 refused, it goes on and prints the same. A command of `rvtl` on a small file prints what it prints undisturbed, or ends with status 4 and
-`rvtl: out of memory` behind a beginning of it; an exploration may tell fewer outcomes, each a true one, and says `out of memory` in its last line.
+`rvtl: out of memory` behind a beginning of it. Where the refused memory was a search's, it may tell fewer outcomes or states, each a true one: an
+exploration says `out of memory` in its last line, an audit of fences behind each answer that it leaves undecided, and a litmus test is `Undecided` or has no answer.
 Where the start of a hart's thread is refused in place of an allocation, or memory for one, it says `rvtl: cannot start a thread`, with status 1;
 where that of its own, `out of memory` and how large a stack it asked for, with status 4. `rt ci` has to have built the programs.
 
@@ -30,6 +31,8 @@ EXAMPLES = TOP / "examples"
 ROWS = ("row_10", "row_13", "row_18", "row_34")
 # The most seconds that a program may take, and its children one by one.
 SECONDS = 60
+# The ends of two harts that take turns.
+TURNS = "hart 0: exit 0 output 1   hart 1: exit 0 output 2\nhart 0: exit 0 output 2   hart 1: exit 0 output 1\n"
 
 # Beside the program's own calls; the kit's compiler has no C headers. A child's number and status go to the descriptor REFUSED_TELLS, and what it
 # prints and writes into REFUSED_FOLDER: what the program itself had printed until then stands before it.
@@ -130,8 +133,8 @@ def ends(words, shim, kind, folder):
     return whole, [End(folder, name, int(status)) for name, status in children]
 
 
-def commands():
-    """Each command on a small file: its name, and its words behind the program's."""
+def commands(turns):
+    """Each command on a small file: its name, and its words behind the program's. The file `turns` has what TURNS allows."""
     load, store = EXAMPLES / "load.bin", EXAMPLES / "store_buffering"
     yield "replay", ["replay", "--raw", load, EXAMPLES / "load.script"]
     yield "explain", ["explain", "--raw", load, EXAMPLES / "load.script"]
@@ -149,6 +152,9 @@ def commands():
     yield "explore --show", ["explore", "--harts", "2", "--show", "counter", EXAMPLES / "lost_update.elf"]
     yield "explore --sample", ["explore", "--harts", "2", "--sample", "2", "--seed", "1", f"{store}.elf"]
     yield "explore --architecture", ["explore", "--architecture", "--harts", "2", "--scripts", ".", EXAMPLES / "message_passing_unacquired.elf"]
+    yield "fences", ["fences", "--harts", "2", "--write", "written.elf", f"{store}_fenced.elf"]
+    yield "fences --allow", ["fences", "--harts", "2", "--allow", turns, EXAMPLES / "spin_lock_unacquired.elf"]
+    yield "litmus", ["litmus", EXAMPLES / "MP.litmus"]
     yield "help", ["--help"]
 
 
@@ -173,13 +179,40 @@ def memory_wrong(end, whole):
     return f"lines that stand nowhere undisturbed: {end.out[-200:]!r}"
 
 
+def is_left_open(line):
+    """A line of an audit that claims nothing but that a search lacked memory, or counts the searches."""
+    reasoned = line.lstrip().startswith("undecided") and line.endswith(", out of memory")
+    return reasoned or line.startswith(("    undecided: ", "    not asked", "searched: ", "enough together, perhaps more than needed", "missing, perhaps more than needed"))
+
+
+def search_wrong(end, whole, is_open):
+    """The same of a command that answers by searches: where one lacked memory, it tells that, and lines that it tells undisturbed."""
+    wrong = memory_wrong(end, whole)
+    is_told = end.status == 4 and "rvtl: out of memory" in end.err.splitlines() or end.status == whole.status == 3
+    if not wrong or not is_told:
+        return wrong
+    others = [line for line in end.out.splitlines() if line not in whole.out.splitlines() and not is_open(line)]
+    return f"lines that stand nowhere undisturbed: {others}" if others else None
+
+
+def audit_wrong(end, whole):
+    return search_wrong(end, whole, is_left_open)
+
+
+def litmus_wrong(end, whole):
+    return search_wrong(end, whole, re.compile(r"(States|Positive:|Undecided|Observation \S+ Unknown) ?").match)
+
+
+JUDGES = {"fences": audit_wrong, "fences --allow": audit_wrong, "litmus": litmus_wrong}
+
+
 def row_wrong(end, whole):
     return None if end.is_like(whole) and end.status == 0 else f"status {end.status}, {end.out[-120:]!r}, {end.err[-120:]!r}"
 
 
 def start_wrong(end, whole):
     of_hart = end.status == 1 and end.err.splitlines()[-1:] == ["rvtl: cannot start a thread"]
-    own = ["rvtl: out of memory", "note: no thread with a stack of 1024 KiB was to be had"]
+    own = ["rvtl: out of memory", "note: no thread with a stack of 8192 KiB was to be had"]
     is_told = of_hart or end.status == 4 and end.err.splitlines() == own
     return None if is_told or end.is_like(whole) else f"status {end.status}, {end.err[-120:]!r}"
 
@@ -204,10 +237,12 @@ def main():
         shim = pathlib.Path(folder) / "refuse.so"
         code = pathlib.Path(folder) / "refuse.c"
         code.write_text(SHIM)
+        turns = pathlib.Path(folder) / "turns"
+        turns.write_text(TURNS)
         subprocess.run([compiler, "-O1", "-w", "-fPIC", "-shared", "-nostdlib", "-fuse-ld=lld", "-o", shim, code], check=True)
         tries = [(row, [COMPARISONS, row], "memory", row_wrong) for row in ROWS]
-        tries += [(name, [RVTL, *words], "memory", memory_wrong) for name, words in commands()]
-        tries += [(f"{name}, threads", [RVTL, *words], "thread", start_wrong) for name, words in commands() if name in ("check", "run")]
+        tries += [(name, [RVTL, *words], "memory", JUDGES.get(name, memory_wrong)) for name, words in commands(turns)]
+        tries += [(f"{name}, threads", [RVTL, *words], "thread", start_wrong) for name, words in commands(turns) if name in ("check", "run")]
         tries = [it for it in tries if not wanted or it[0] in wanted]
         for (name, *_), (count, wrong) in zip(tries, pool.map(lambda it: refusals(it[1], shim, *it[2:]), tries)):
             well, total = well + (count > 0 and not wrong), total + count
