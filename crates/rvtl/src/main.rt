@@ -34,10 +34,20 @@ const OUT_OF_MEMORY: u8 = 4;
 
 fn main(rt: HostRuntime) -> ExitCode {
     let rt = &rt;
-    let started = match run_on(rt, STACK, rt.stdout(), rt.stderr()) {
-        Err(_) => run_on(rt, SMALL_STACK, rt.stdout(), rt.stderr()),
-        ended => ended,
-    };
+    let started = thread::scope(
+        thread::scope_env(),
+        rt,
+        |scope| -> io::Result<io::Result<u8>> {
+            let own = Builder::new().stack_size(STACK);
+            let program = match own.spawn_scoped(scope, move || run(rt, rt.stdout(), rt.stderr())) {
+                Ok(program) => program,
+                Err(_) => Builder::new()
+                    .stack_size(SMALL_STACK)
+                    .spawn_scoped(scope, move || run(rt, rt.stdout(), rt.stderr()))?,
+            };
+            Ok(program.join(rt))
+        },
+    );
     let Ok(ended) = started else {
         let _ = eprintln!(rt; "rvtl: out of memory");
         let _ = eprintln!(rt;
@@ -54,23 +64,6 @@ fn main(rt: HostRuntime) -> ExitCode {
         let _ = eprintln!(rt; "rvtl: {message}");
     }
     code_of(ended)
-}
-
-/// Runs the program in a thread with a stack of so many bytes; it errs where none is to be had.
-fn run_on<
-    R: Clock + Env + Eprint + Files + Input + Threads + Wait + Sync + AllocGlobal,
-    O: Write + Drop + Send,
-    E: Write + IsTerminal + Drop + Send,
->(rt: &R, stack: usize, out: O, err: E) -> io::Result<io::Result<u8>> {
-    thread::scope(
-        thread::scope_env(),
-        rt,
-        move |scope| -> io::Result<io::Result<u8>> {
-            let own = Builder::new().stack_size(stack);
-            let program = own.spawn_scoped(scope, move || run(rt, out, err))?;
-            Ok(program.join(rt))
-        },
-    )
 }
 
 fn run<
