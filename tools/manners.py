@@ -151,13 +151,11 @@ def memory_ends(rvtl, folder):
     tell("memory ends in some of so many", 4 in statuses, statuses)
 
 
-def little_room_for_a_stack(rvtl):
-    """Where there is no memory for the program's stack it has a smaller one, and where there isn't even that, how much it takes is told."""
-    def room(kib):
-        return lambda: resource.setrlimit(resource.RLIMIT_AS, (kib << 10, kib << 10))
-    ends("less memory than a stack takes", [rvtl, "replay", "--raw", IMAGE, SCRIPT], 0, ["hart 0: exit 5"], preexec_fn=room(8192))
-    ends("less memory than the smaller one takes", [rvtl, "--help"], 4,
-         ["rvtl: out of memory", "note: no thread with a stack of 1024 KiB was to be had"], preexec_fn=room(4096))
+def no_room_for_a_stack(rvtl):
+    """Where there is no memory for the program's stack, how much that takes is told."""
+    room = lambda: resource.setrlimit(resource.RLIMIT_AS, (8 << 20, 8 << 20))
+    ends("less memory than a stack takes", [rvtl, "--help"], 4,
+         ["rvtl: out of memory", "note: no thread with a stack of 8192 KiB was to be had"], preexec_fn=room)
 
 
 def renamed(program, old, new):
@@ -389,7 +387,7 @@ def main():
         ends("a program without an end", [rvtl, "explore", "/dev/zero"], 1,
              ["rvtl: /dev/zero: cannot read", "note: it has more than 268435456 bytes, and no more is read"])
         steering_words(rvtl)
-        little_room_for_a_stack(rvtl)
+        no_room_for_a_stack(rvtl)
         long_names(rvtl, folder)
         stopped(rvtl, folder)
         until(rvtl)

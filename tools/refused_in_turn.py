@@ -179,7 +179,7 @@ def row_wrong(end, whole):
 
 def start_wrong(end, whole):
     of_hart = end.status == 1 and end.err.splitlines()[-1:] == ["rvtl: cannot start a thread"]
-    own = ["rvtl: out of memory", "note: no thread with a stack of 1024 KiB was to be had"]
+    own = ["rvtl: out of memory", "note: no thread with a stack of 8192 KiB was to be had"]
     is_told = of_hart or end.status == 4 and end.err.splitlines() == own
     return None if is_told or end.is_like(whole) else f"status {end.status}, {end.err[-120:]!r}"
 

@@ -26,9 +26,6 @@ use std::time::Clock;
 /// How many bytes of stack the program has, whatever the system gives the process.
 const STACK: usize = 8 << 20;
 
-/// How many it has where these aren't to be had: many times what commands were measured to take.
-const SMALL_STACK: usize = 1 << 20;
-
 /// The status where memory ended.
 const OUT_OF_MEMORY: u8 = 4;
 
@@ -39,12 +36,7 @@ fn main(rt: HostRuntime) -> ExitCode {
         rt,
         |scope| -> io::Result<io::Result<u8>> {
             let own = Builder::new().stack_size(STACK);
-            let program = match own.spawn_scoped(scope, move || run(rt, rt.stdout(), rt.stderr())) {
-                Ok(program) => program,
-                Err(_) => Builder::new()
-                    .stack_size(SMALL_STACK)
-                    .spawn_scoped(scope, move || run(rt, rt.stdout(), rt.stderr()))?,
-            };
+            let program = own.spawn_scoped(scope, move || run(rt, rt.stdout(), rt.stderr()))?;
             Ok(program.join(rt))
         },
     );
@@ -52,7 +44,7 @@ fn main(rt: HostRuntime) -> ExitCode {
         let _ = eprintln!(rt; "rvtl: out of memory");
         let _ = eprintln!(rt;
             "note: no thread with a stack of {} KiB was to be had",
-            SMALL_STACK / 1024
+            STACK / 1024
         );
         return ExitCode::from(OUT_OF_MEMORY);
     };
