@@ -1,6 +1,6 @@
 use Rattle.std.proofs.Common.{◌≡◌, length}
-use Rattle.script_commands.specs.Addresses.{number_from}
-use Rattle.script_commands.proofs.chart.address.number.Given as goal
+use Rattle.command_files.specs.Addresses.{number_from}
+use Rattle.command_files.proofs.address.number.Given as goal
 
 abbrev pub invariant-loop-rest : goal.invariant-loop-rest
 invariant-loop-rest l = number_from l.radix l.value l.rest ≡ number_from l.radix 0 l.digits

@@ -1,5 +1,5 @@
 //! The law of machines' traces, the contract of a function that does nothing.
-ghost use Rattle.machine_traces.specs.MachineTraces.{EveryTraceHasAText};
+ghost use Rattle.command_files.specs.MachineTraces.{EveryTraceHasAText};
 
 /// Whatever events come in whatever order, a machine's trace is within the limits of its text, so that
 /// what `write_trace` writes of it is read back as the same trace.

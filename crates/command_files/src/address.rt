@@ -1,6 +1,6 @@
 //! Addresses as they are given on the command line.
 ghost use Rattle.std.specs.Prelude.{◌≡◌, ◌<◌, ◌≤◌};
-ghost use Rattle.script_commands.specs.Addresses as addresses;
+ghost use Rattle.command_files.specs.Addresses as addresses;
 
 /// What stands for no digit.
 const NO_DIGIT: u8 = 99;

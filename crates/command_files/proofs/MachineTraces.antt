@@ -26,7 +26,7 @@ use Rattle.tl_types.specs.declared.message.Body.TheVariants.{AcquireBlock, Probe
 use Rattle.trace_recorder.specs.History.{History}
 use Rattle.trace_recorder.specs.declared.logged.Logged.{Logged}
 use Rattle.trace_recorder.specs.declared.operation.OpId.{OpId}
-use Rattle.machine_traces.specs.MachineTraces.{EveryTraceHasAText}
+use Rattle.command_files.specs.MachineTraces.{EveryTraceHasAText}
 use Rattle.trace_text.specs.TraceHeads.{IsTraceHead}
 use Rattle.trace_text.specs.TraceLimits.{IsBody, IsData, IsHart, IsLoaded, IsLogged, IsOperation, IsRetired, IsStatus}
 use Rattle.trace_text.specs.Traces.{head_of}

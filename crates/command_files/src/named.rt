@@ -5,9 +5,11 @@ ghost use Rattle.command_files.specs.Faults.{IsImageFault};
 ghost use Rattle.command_files.specs.Files.{HoldsImage};
 ghost use Rattle.command_files.specs.declared.fault.Fault.TheVariants.{OutOfMemory};
 ghost use Rattle.elf_loader.specs.Size.{IsMemoryKib};
-ghost use Rattle.script_commands.specs.Named.{HoldsNamedImage, names_in};
+ghost use Rattle.command_files.specs.Named.{HoldsNamedImage, names_in};
 
-use command_files::{Fault, Files, contents, image_of};
+use crate::fault::Fault;
+use crate::files::Files;
+use crate::reading::{contents, image_of};
 use elf_loader::Image;
 use elf_symbols::Symbols;
 use std::alloc::Global;
