@@ -8,6 +8,6 @@ pub returns-in_err-take_next-clause-cut : goal.returns-in_err-take_next-clause-c
 returns-in_err-take_next-clause-cut g c =
     let p = err_from_is_err_and c.from_residual.result c.from_residual.ensures.1 in
     let left = waiting c.pop.new.self.items in
-    let next = next_name c.loop-taken.pending.items c.pop.new.self.items c.in-Some.name c.in-Some.ensures.items ∙ ap (λ (name : List ℕ). name ∷ left) (sym c.as_str.ensures.value) in
+    let next = next_name c.loop-taken.walk.pending.items c.pop.new.self.items c.in-Some.name c.in-Some.ensures.items ∙ ap (λ (name : List ℕ). name ∷ left) (sym c.as_str.ensures.value) in
     rw (p.1, p.2)
-    (cut_off _ _ _ _ _ _ _ c.as_str.result.now _ left _ _ _ _ c.loop-taken.invariant.way next c.loop-taken.invariant.stays c.in_err-take_next.ensures.cut)
+    (cut_off _ _ _ _ _ _ _ _ _ _ _ c.as_str.result.now _ left _ _ _ _ c.loop-taken.invariant.way next c.loop-taken.invariant.stays c.in_err-take_next.ensures.cut)

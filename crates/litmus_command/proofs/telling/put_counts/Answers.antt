@@ -1,0 +1,10 @@
+use Rattle.std.proofs.Common.{◌++◌}
+use Rattle.std.specs.Prelude.{codes}
+use Rattle.litmus_command.specs.Telling.{answered_text, failed_text, skipped_text, unproved_text}
+use Rattle.text_fields.proofs.Written.{begins_first, stops}
+use Rattle.litmus_command.proofs.telling.put_counts.Goals as goal
+
+pub returns-in_err-put_answered : goal.returns-in_err-put_answered
+returns-in_err-put_answered g c =
+    let n = c.args.counts in
+    stops _ _ _ _ c.from_residual.ensures.0 (begins_first _ _ (answered_text n) (unproved_text n ++ (skipped_text n.skipped ++ (failed_text n.failed ++ codes "\n"))) c.in_err-put_answered.ensures)
