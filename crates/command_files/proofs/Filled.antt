@@ -1,5 +1,7 @@
 -- A buffer that is filled part by part.
-use Rattle.std.proofs.Common.{◌≡◌, ℕ, ◌+◌, ◌-◌, ◌≤◌, List, ◌++◌, arith, length, take, slice_range, sym, ap, ◌∙◌, drop_at, length-take-le}
+use Rattle.std.proofs.Common.{◌≡◌, ℕ, ◌+◌, ◌-◌, ◌≤◌, List, [], ◌++◌, None, Option, Some, arith, length, refl, subst, take, slice_range, sym, ap, ◌∙◌, drop_at, length-take-le}
+use Rattle.std.specs.Io.KnownBytes.{Consumes}
+use Rattle.command_files.specs.Contents.{IsUnread}
 use borrow.Rule.Slice.PartMut.{put_mid, post_of}
 use lib.Seq.{take-add, take-append-le}
 
@@ -15,3 +17,8 @@ read_part a k n xs ys within fits =
     let same : (a + n) - a ≡ n = omega arith in
     let after = post_of a k xs in
     ap (take ((a + n) - a)) (drop_at (take a xs) (ys ++ after) a (length-take-le a xs within)) ∙ ap (λ m. take m (ys ++ after)) same ∙ take-append-le n ys after fits
+
+-- a file of which nothing was read yet
+pub none_consumed : (known left : Option (List ℕ)) → IsUnread known left → Consumes known left []
+none_consumed None left is = tt
+none_consumed (Some bytes) left is = subst (λ (o : Option (List ℕ)). Consumes (Some bytes) o []) (sym is) refl

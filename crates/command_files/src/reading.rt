@@ -128,6 +128,7 @@ fn too_long<'a, F: Files>(alloc: Global, files: &mut F, name: &'a str, most: u64
 }
 
 /// The bytes of a file of `MOST` bytes at most.
+#[tactic(auto, using(crate::proofs::Filled::none_consumed))]
 pub fn contents<'a, F: Files>(
     alloc: Global,
     files: &mut F,
@@ -137,8 +138,12 @@ pub fn contents<'a, F: Files>(
     ensures bytes { IfOk result (λ bytes. HoldsBytes (F.held files.old) name.entry.now bytes.items) }
     ensures stays { F.held files.new ≡ F.held files.old }
 {
-    let opened = open(alloc, files, name)?;
-    rest(alloc, files, name, opened, MOST)
+    let reader = match files.open(name) {
+        Ok(reader) => reader,
+        Err(error) => return Err(unread(alloc, files, name, error)),
+    };
+    let bytes = Vec::new(alloc);
+    rest(alloc, files, name, Opened { bytes, reader }, MOST)
 }
 
 /// The bytes of a file that has to be a text, of `MOST_OF_TEXT` bytes at most. Where its first line is longer than that of

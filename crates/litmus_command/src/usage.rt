@@ -18,8 +18,8 @@ Options:
       --seen LOG      print those tests alone of which LOG has a state that isn't found (litmus7's, or of an RTL)
       --scripts FOLDER
                       write what explains the answers: NAME.elf, a test's program with its own names, and for each state
-                      that decides its answer (K: its line) NAME-K.script, for explain, replay, chart and page, or
-                      NAME-K.trace of what the model alone allows, for explain and check
+                      that decides its answer NAME-K.script, or NAME-K.trace of what the model alone allows (K: the
+                      state's line), for replay, explain, chart and check
       --window N      how many operations of a hart may wait at a time, 1 to 64 [default: 16]
       --states N      how many states of a test's program are found at most, 1 to 1000000000 [default: 4000000]
       --threads N     how many tests are answered at a time, 1 to 64 [default: as many as there are processors]
