@@ -44,9 +44,9 @@ meant_of skip bytes source name fault same told = subst (λ (b : List ℕ). IsMe
 pub handed_on : (held now : Contents) (name : List ℕ) (left : Option (List ℕ)) (bytes slice : List ℕ) → now ≡ held → slice ≡ bytes → Consumes (held name) left bytes → Consumes (now name) left slice
 handed_on held now name left bytes slice spared same taken = subst (λ (h : Contents). Consumes (h name) left slice) (sym spared) (subst (λ (b : List ℕ). Consumes (held name) left b) (sym same) taken)
 
-pub broken_found : (bytes slice : List ℕ) (check : MessageCheck) (found : Option ReadLog) (log : ReadLog) → slice ≡ bytes → found ≡ Some log → IfSome found (λ l. IsBrokenBy slice check l.trace.history) → IsBrokenBy bytes check log.trace.history
+pub broken_found : (bytes slice : List ℕ) (check : MessageCheck) (found : Option ReadLog) (log : ReadLog) → slice ≡ bytes → found ≡ Some log → IfSome found (λ l. IsBrokenBy slice check l.log) → IsBrokenBy bytes check log.log
 broken_found bytes slice check found log same is broken =
-    subst (λ (b : List ℕ). IsBrokenBy b check log.trace.history) same (subst (λ (o : Option ReadLog). IfSome o (λ l. IsBrokenBy slice check l.trace.history)) is broken)
+    subst (λ (b : List ℕ). IsBrokenBy b check log.log) same (subst (λ (o : Option ReadLog). IfSome o (λ l. IsBrokenBy slice check l.log)) is broken)
 
 -- a file that can't be read is no text
 pub read_is_text : (held : Contents) (name : Name) (fault : Fault) → IsReadFault name fault → IsTextFault held name fault

@@ -18,7 +18,7 @@ use Rattle.explore_command.specs.Searching.{IsSearchNoted, IsSearched, SearchHas
 use Rattle.explore_command.specs.Sampling.{IsSampleTold, SampleHas, SampleRefusals}
 use Rattle.explore_command.specs.Showing.{AreWordsShown, IsElsewhere, WordRefusals, WordsHave}
 use Rattle.explore_command.specs.Until.{IsWayNoted, IsWayTold, WayHas}
-use Rattle.script_commands.specs.Addresses.{address}
+use Rattle.command_files.specs.Addresses.{address}
 use Rattle.script_commands.specs.Charting.{IsCharted, IsPictureCutOff as IsHalfCharted}
 use Rattle.trace_commands.specs.Checking.{IsVerdictTold, IsVerdictCutOff}
 use Rattle.trace_commands.specs.Messages.{IsLogCutOff, IsLogJudged}

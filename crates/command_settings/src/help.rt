@@ -197,7 +197,7 @@ this program's own data.
 Example: rvtl fences --harts 2 examples/mcs_lock.elf";
 
 pub(crate) const SHOW_HELP: &str =
-    "show the word of memory at this address (decimal, or hexadecimal behind 0x) or symbol in each outcome, which then ends only once no store waits; may be given again";
+    "show the word of memory at this address (decimal, or hexadecimal behind 0x) or symbol, or so many bytes behind one (counter+4), in each outcome, which then ends only once no store waits; may be given again";
 
 pub(crate) const SCRIPTS_HELP: &str =
     "the folder, which has to exist, to write outcome-1.script .., failure-1.script .. and stuck.script into, each for replay; and outcome-1.trace .., each for check, of outcomes that this machine wasn't found to show. Other files there stay, also those of an earlier search";

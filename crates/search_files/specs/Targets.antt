@@ -1,6 +1,7 @@
 -- The words of memory that are to be shown: what they are called, and where they lie.
-use Rattle.std.specs.Prelude.{ℕ, ◌≡◌, ◌⊎◌, ◌∷◌, ◌++◌, All, List, None, Option, Some, map}
-use Rattle.script_commands.specs.Addresses.{address}
+use Rattle.std.specs.Prelude.{ℕ, ◌≡◌, ◌⊎◌, ◌∷◌, ◌++◌, ◌+◌, ◌^◌, All, List, None, Option, Some, if◌then◌else◌, map, nat_lt, option_and_then, option_or}
+use Rattle.std.specs.Path.{rsplit_once}
+use Rattle.command_files.specs.Addresses.{address}
 use Rattle.command_files.specs.Faults.{Name}
 use Rattle.command_files.specs.declared.fault.Fault.{Fault}
 use Rattle.command_files.specs.declared.fault.Fault.TheVariants.{CannotShow, OutOfMemory}
@@ -23,9 +24,25 @@ name_of word = name_by word (address word.now)
 abbrev pub names_of : List Name → List WordName
 names_of = map name_of
 
+-- so many bytes behind a place, if that is an address
+abbrev pub beyond : ℕ → ℕ → Option ℕ
+beyond start offset = if nat_lt (start + offset) (2 ^ 32) then Some (start + offset) else None
+
+-- where a word lies so many bytes behind a symbol, by the name's parts before and behind its last `+`
+abbrev pub place_behind : List Named → Option (List ℕ × List ℕ) → Option ℕ
+place_behind symbols None = None
+place_behind symbols (Some (symbol, offset)) = option_and_then (λ start. option_and_then (beyond start) (address offset)) (address_of symbols symbol)
+
+abbrev pub offset_place : List Named → List ℕ → Option ℕ
+offset_place symbols name = place_behind symbols (rsplit_once 43 name)
+
+-- where a symbol lies, or a word behind one, as `counter+4`: the whole name comes first, as a symbol's own may have a `+`
+abbrev pub symbol_place : List Named → List ℕ → Option ℕ
+symbol_place symbols name = option_or (address_of symbols name) (offset_place symbols name)
+
 -- where a word lies, by the symbols of the image's file
 abbrev pub place_of : List Named → WordName → Option ℕ
-place_of symbols (Symbol name) = address_of symbols name.now
+place_of symbols (Symbol name) = symbol_place symbols name.now
 place_of symbols (Address place) = Some place
 
 -- the words lie at these addresses

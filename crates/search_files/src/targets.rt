@@ -1,15 +1,14 @@
 //! The words of memory that are to be shown: what they are called, and where they lie.
 
 ghost use Rattle.std.specs.Prelude.{◌≡◌, ◌++◌, IfErr, IfOk, OnOk, Some, map};
-ghost use Rattle.search_files.specs.Targets.{AreAddressesOf, IsUnplaced, IsUnshown, name_of, names_of, place_of};
+ghost use Rattle.search_files.specs.Targets.{AreAddressesOf, IsUnplaced, IsUnshown, name_of, names_of, offset_place, place_of, symbol_place};
 ghost use Rattle.performed_words.specs.Words.{CanShow, CanShowEach};
 
-use command_files::{Fault, Unshown};
+use command_files::{Fault, Unshown, address_in};
 use elf_loader::Image;
 use elf_symbols::Symbols;
 use exploration_text::WordName;
 use performed_words::can_show;
-use script_commands::address_in;
 use std::alloc::{AllocError, Global};
 
 /// What lines call the words, and where they lie, both in the order of their asking.
@@ -29,12 +28,32 @@ fn name_of<'a>(word: &'a str) -> WordName<'a>
     }
 }
 
+/// Where the word lies that is so many bytes behind a symbol, as `counter+4`. None: the name has no `+`, there is no
+/// such symbol, or no such number, or the sum is no address.
+fn offset_place(symbols: &Symbols, name: &str) -> Option<u32>
+    ensures { result ≡ offset_place symbols.now name.now }
+{
+    let (symbol, offset) = name.rsplit_once('+')?;
+    let start = symbols.address_of(symbol.as_bytes())?;
+    start.checked_add(address_in(offset.as_bytes())?)
+}
+
+/// Where a symbol lies, or a word behind one. The whole name comes first, as a symbol's own may have a `+`.
+fn symbol_place(symbols: &Symbols, name: &str) -> Option<u32>
+    ensures { result ≡ symbol_place symbols.now name.now }
+{
+    match symbols.address_of(name.as_bytes()) {
+        Some(address) => Some(address),
+        None => offset_place(symbols, name),
+    }
+}
+
 /// Where the word lies that is called so.
 fn place_of(symbols: &Symbols, name: &WordName<'_>) -> Option<u32>
     ensures { result ≡ place_of symbols.now name.now }
 {
     match name {
-        WordName::Symbol(symbol) => symbols.address_of(symbol.as_bytes()),
+        WordName::Symbol(symbol) => symbol_place(symbols, symbol),
         WordName::Address(address) => Some(*address),
     }
 }

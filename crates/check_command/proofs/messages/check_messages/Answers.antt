@@ -14,7 +14,7 @@ returns-in_err-read-clause-told g c = handed_up _ c.from_residual.result _ c.fro
 
 pub returns-in-Err-clause-unfinished : goal.returns-in-Err-clause-unfinished
 returns-in-Err-clause-unfinished g c = spoiled _ _ _ c.writing.result c.writing.ensures.told (record {
-  trace = c.in_ok-read.read.trace.history;
+  log = c.in_ok-read.read.log;
   verdict = c.in-Ok.answer.verdict;
   breaches = c.in-Ok.answer.breaches;
   file = c.in_ok-read.ensures.read;
@@ -25,7 +25,7 @@ returns-in-Err-clause-unfinished g c = spoiled _ _ _ c.writing.result c.writing.
 
 pub returns-clause-judged : goal.returns-clause-judged
 returns-clause-judged g c = record {
-  trace = c.in_ok-read.read.trace.history;
+  log = c.in_ok-read.read.log;
   breaches = c.in-Ok.answer.breaches;
   file = c.in_ok-read.ensures.read;
   judged = c.in-Ok.ensures.verdict;
