@@ -9,7 +9,9 @@ use Rattle.architecture_outcomes.specs.declared.architecture.Architecture.{Archi
 use Rattle.elf_loader.specs.Image.{Initial}
 use Rattle.exploration_text.specs.Ranks.{outcome_cmp}
 use Rattle.architecture_outcomes.specs.Words.{CanShow, CanShowEach}
-use Rattle.fence_audit.specs.Answers.{IsSearchOf}
+use Rattle.fence_audit.specs.Answers.{IsMachineSearchOf, IsSearchIn, IsSearchOf}
+use Rattle.fence_audit.specs.declared.searches.World.{World}
+use Rattle.fence_audit.specs.declared.searches.World.TheVariants.{Machine, Model}
 use Rattle.machine_types.specs.declared.config.Config.{Config}
 use Rattle.state_search.specs.declared.findings.Extent.TheVariants.{Complete}
 use Rattle.architecture_outcomes.specs.Complete.{TellsEachAllowed}
@@ -32,3 +34,19 @@ module _ (image : Initial) (config : Config) (addresses : List ℕ) (window limi
   searched (Ok a) shown machine alone allowed bounded order model width =
       record { shown = shown; machine = machine; alone = alone; allowed = allowed; bounded = bounded; order = order; model = model; window_is = width }
   searched (Err error) shown machine alone allowed bounded order model width = tt
+
+-- what a search found within few states is what it may find within more
+module _ (image : Initial) (config : Config) (addresses : List ℕ) (window few more : ℕ) (fewer : few ≤ more) where
+  more_of_model : (a : Architecture) → IsSearchOf image config addresses window few a → IsSearchOf image config addresses window more a
+  more_of_model a is = record { shown = is.shown; machine = is.machine; alone = is.alone; allowed = is.allowed; bounded = λ keeps. omega (arith, is.bounded keeps, fewer); order = is.order; model = is.model; window_is = is.window_is }
+
+  more_of_machine : (a : Architecture) → IsMachineSearchOf image config addresses window few a → IsMachineSearchOf image config addresses window more a
+  more_of_machine a is = record { shown = is.shown; machine = is.machine; alone = is.alone; bounded = omega (arith, is.bounded, fewer); order = is.order; model = is.model; window_is = is.window_is; unasked = is.unasked }
+
+  more_in : (world : World) (a : Architecture) → IsSearchIn world image config addresses window few a → IsSearchIn world image config addresses window more a
+  more_in Model a is = more_of_model a is
+  more_in Machine a is = more_of_machine a is
+
+  pub searched_more : (world : World) (r : Result Architecture AllocError) → IfOk r (IsSearchIn world image config addresses window few) → IfOk r (IsSearchIn world image config addresses window more)
+  searched_more world (Ok a) is = more_in world a is
+  searched_more world (Err error) is = tt

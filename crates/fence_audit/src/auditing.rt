@@ -7,7 +7,7 @@ ghost use Rattle.fence_audit.specs.Auditing.{ArePartsOf, IsAudit, IsLeftOut, IsR
 ghost use Rattle.fence_audit.specs.Searches.{ArePatchesOf, AreSearched, Grows, IsReady};
 
 use crate::answers::{Standard, is_whole, refused_place};
-use crate::searches::{Asking, Question, Search, Steps, World, explore, search_in};
+use crate::searches::{Asking, Question, Search, Steps, Want, World, explore, search_in};
 use architecture_outcomes::{Architecture, Outcome};
 use image_orderings::{
     ImageOrdering, Part, Patch, met_orderings, orderings_of, own_patches, patches_without,
@@ -158,12 +158,12 @@ impl Asking<'_> {
     {
         watch.expects(most_searched(orderings));
         let mut searches = Vec::new(self.alloc);
-        self.prepare(rt, &mut searches, orderings, own, watch)?;
+        self.prepare(rt, &mut searches, orderings, own, Want::First, watch)?;
         self.ask_each(&mut searches, orderings, own, watch)?;
         self.prepare_forms(rt, &mut searches, orderings, own, watch)?;
         self.weigh_each(&mut searches, orderings, own, watch)?;
         let last = self.reduced(&mut searches, orderings, own, watch)?;
-        self.prepare(rt, &mut searches, orderings, &last, watch)?;
+        self.prepare(rt, &mut searches, orderings, &last, Want::Any, watch)?;
         self.ask_each(&mut searches, orderings, &last, watch)?;
         Ok(Reduced { searches, last })
     }
