@@ -97,9 +97,9 @@ pub record IsAuditBy (world : World) (image : Initial) (config : Config) (addres
   pub known : IsSearchIn world image config addresses window limit audit.known
   pub parts : ArePartsOf world image config addresses window limit answers (is_whole audit.known) (parts_in audit)
 
--- each is to have the outcomes of the program as it is
+-- each is to have the outcomes of the program as it is, and no other hart that stops
 abbrev pub IsAudit : World → Initial → Config → (addresses : List ℕ) → (window limit : ℕ) → Audit → Type 0
-IsAudit world image config addresses window limit audit = IsAuditBy world image config addresses window limit (answer_as audit.known.outcomes.items) audit
+IsAudit world image config addresses window limit audit = IsAuditBy world image config addresses window limit (answer_as audit.known) audit
 
 -- ---- what shows that an ordering is needed
 

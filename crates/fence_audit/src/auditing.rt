@@ -36,7 +36,7 @@ pub struct Audit {
 
 /// Searches the program as it is, and where that search is whole without each of its orderings to which a hart may come, with weaker FENCEs in
 /// place of those that are needed, and with ever fewer orderings: each is left out in turn, by addresses, and then each
-/// FENCE made weaker, where the outcomes stay the same. Programs that are known beforehand are searched side by side.
+/// FENCE made weaker, where the outcomes stay the same, and no other hart stops. Programs that are known beforehand are searched side by side.
 /// Meanwhile `watch` is told how far it is. The error is that there was no memory.
 pub fn audit_program<R: Threads + Sync, W: Steps + Sync>(
     rt: &R,
@@ -48,7 +48,7 @@ pub fn audit_program<R: Threads + Sync, W: Steps + Sync>(
     ensures { IfOk result (IsAudit question.entry.world question.entry.image.now question.entry.config question.entry.addresses.now question.entry.window question.entry.limit) }
 {
     let known = explore(alloc, question, &[], watch)?;
-    let standard = Standard::AsItIs(&known.outcomes);
+    let standard = Standard::AsItIs(&known);
     let parts = parts_of(rt, alloc, question, standard, is_whole(&known), watch)?;
     Ok(audit_with(question.world, known, parts))
 }
