@@ -2,7 +2,7 @@
 """Counts by which rules of messages the changes of the gate's logs break: `tools/changed_logs.py`, from the top of the repository.
 
 The rules are those of `rvtl check --messages` (docs/FORMATS.md) by the profile `machine`, written without proofs: eight by
-counts, five by permissions and bytes. Each log of `crates/gate_comparisons/data/logs` is changed as that program changes it: an
+counts, five by permissions and bytes. Each log of `crates/gate_comparisons/data/logs/machine` is changed as that program changes it: an
 entry is left out, doubled, exchanged with the next, or gets another hart, kind, permission, other bytes, or bytes where it had
 none; and a message is left out at both ends, or gets another permission, other bytes or bytes at both. It prints what the
 program prints of them: how many of the changes are lawful, and of each rule how often it is the first that is broken, and how
@@ -10,7 +10,7 @@ many messages break it."""
 import collections
 
 DATA = "crates/gate_comparisons/data/"
-WRONG = ["grant_before_all_acks", "data_with_each_grant", "grant_without_data_after_a_probe"]
+WRONG = ["logs/grant_before_all_acks", "logs/data_with_each_grant", "logs/grant_without_data_after_a_probe"]
 RULES = ["in-order", "question", "permission", "data", "acquire-once", "probe-once", "grant-alone", "release-alone",
          "permission-held", "probe-obeyed", "one-writer", "data-asked", "data-kept"]
 CHANNEL = {"AcquireBlock": "A", "ProbeBlock": "B", "ProbeAck": "C", "ProbeAckData": "C", "Release": "C", "ReleaseData": "C",
@@ -183,7 +183,7 @@ def changes(log):
 
 
 def main():
-    logs = read_logs("logs")
+    logs = read_logs("logs/machine")
     assert not any(map(breaches, logs))
     found = [breaches(changed) for log in logs for changed in changes(log)]
     first = collections.Counter(broken[0][0] for broken in found if broken)

@@ -44,13 +44,17 @@ FLAT = [
     ("explorer", "Sampled", "AreCounted"),
     ("witnesses", "Witnesses", "IsWitness"),
     ("window_model", "Complete", "TellsEachAllowed"),
+    ("window_failures", "Failing", "TellsEachFailing"),
     ("architecture_outcomes", "Outcomes", "IsWitnessed"),
     ("architecture_outcomes", "Outcomes", "TellsEachEnd"),
+    ("architecture_outcomes", "Failings", "IsShown"),
+    ("architecture_outcomes", "Failings", "TellsEachStop"),
 ]
 PROGRAM = [
     ("command_line", "Program", "IsOfLine"),
     ("command_line", "Runs", "RunsReplay"),
     ("explore_command", "Passing", "PassingIsSafe"),
+    ("explore_command", "Passing", "SearchPassingIsSafe"),
 ]
 LITMUS = [
     ("command_line", "Program", "IsOfLitmus"),

@@ -16,7 +16,7 @@ import tempfile
 
 TOP = pathlib.Path(__file__).resolve().parent.parent
 RVTL = TOP / "crates/rvtl/out/rvtl"
-FOLDERS = (TOP / "examples", TOP / "crates/gate_comparisons/data")
+FOLDERS = (TOP / "examples", *(TOP / "crates/gate_comparisons/data" / it for it in (".", "replayed", "refuted")))
 
 # Runs the first script of a page in a function, and asks it for the differences that the page itself would tell.
 FOLLOW = """

@@ -23,6 +23,9 @@ SCRIPT = os.path.join(EXAMPLES, "exit.script")
 SPIN = (0x6F).to_bytes(4, "little")
 # lui a2, 0x80000; then amoadd.w zero, zero, (a2) for ever
 AMOS = b"".join(word.to_bytes(4, "little") for word in (0x80000637, 0x0006202F, 0xFFDFF06F))
+# Hart 0 stores to a word and then jumps to itself; each other hart counts down from 400,000, loads that word and exits.
+WAITERS = b"".join(word.to_bytes(4, "little") for word in (
+    0x80000637, 0x00051863, 0x00100693, 0x10D62023, 0x0000006F, 0x000626B7, 0xA8068693, 0xFFF68693, 0xFE069EE3, 0x10062703, 0x00000073))
 failures = 0
 
 
@@ -32,14 +35,18 @@ def tell(name, is_well, shown):
     print(f"{name}: {'as it should' if is_well else f'NOT: {shown}'}")
 
 
-def ran(words, **more):
-    return subprocess.run(words, stdout=subprocess.PIPE, stderr=subprocess.PIPE, timeout=60, **more)
+def ran(words, seconds=60, **more):
+    return subprocess.run(words, stdout=subprocess.PIPE, stderr=subprocess.PIPE, timeout=seconds, **more)
 
 
 def ends(name, words, status, err, **more):
     """The words end with this status, and standard error has these lines."""
-    end = ran(words, **more)
-    tell(name, end.returncode == status and end.stderr.decode(errors="replace").splitlines() == err, end)
+    try:
+        end = ran(words, **more)
+        is_well = end.returncode == status and end.stderr.decode(errors="replace").splitlines() == err
+    except subprocess.TimeoutExpired as longer:
+        end, is_well = longer, False
+    tell(name, is_well, end)
 
 
 def reader_goes_away(rvtl, folder):
@@ -77,7 +84,7 @@ def over_the_program(rvtl, folder):
 
 
 def ends_over_the_program(rvtl, folder):
-    """Scripts aren't written over the program, nor over what is allowed, also by a link."""
+    """Scripts aren't written over the program, nor over what is allowed, by its own name or a link."""
     ends_folder = os.path.join(folder, "ends")
     os.mkdir(ends_folder)
     program = os.path.join(folder, "explored.bin")
@@ -87,15 +94,16 @@ def ends_over_the_program(rvtl, folder):
         file.write("hart 0: exit 5\n")
     explore = [rvtl, "explore", "--raw", "--scripts", ends_folder]
     script = os.path.join(ends_folder, "outcome-1.script")
-    for name, make in [("a link", os.symlink), ("a hard link", os.link)]:
+    for name, make in [("its own name", shutil.copy), ("a link", os.symlink), ("a hard link", os.link)]:
         for what, read in [("the program", program), ("the file of --allow", allowed)]:
             make(read, script)
+            named = {program: program, allowed: allowed, **({read: script} if make is shutil.copy else {})}
             with open(read, "rb") as file:
                 before = file.read()
-            ends(f"scripts over {what} by {name}", [*explore, "--allow", allowed, program], 1,
+            ends(f"scripts over {what} by {name}", [*explore, "--allow", named[allowed], named[program]], 1,
                  [f"rvtl: {ends_folder}: cannot write",
                   f"note: {script}: this is {what}: name another folder for --scripts"])
-            with open(read, "rb") as file:
+            with open(script, "rb") as file:
                 tell(f"{what} stays", file.read() == before, read)
             os.unlink(script)
 
@@ -151,11 +159,25 @@ def memory_ends(rvtl, folder):
     tell("memory ends in some of so many", 4 in statuses, statuses)
 
 
-def no_room_for_a_stack(rvtl):
-    """Where there is no memory for the program's stack, how much that takes is told."""
-    room = lambda: resource.setrlimit(resource.RLIMIT_AS, (8 << 20, 8 << 20))
-    ends("less memory than a stack takes", [rvtl, "--help"], 4,
-         ["rvtl: out of memory", "note: no thread with a stack of 8192 KiB was to be had"], preexec_fn=room)
+def little_room_for_a_stack(rvtl, folder):
+    """Where there is no memory for the program's stack it has a smaller one, on which each command runs, also on a proposition that nests as deeply
+    as it may; where there isn't even that, how much it takes is told."""
+    def room(kib):
+        return lambda: resource.setrlimit(resource.RLIMIT_AS, (kib << 10, kib << 10))
+    deep = os.path.join(folder, "deep.litmus")
+    with open(os.path.join(EXAMPLES, "MP.litmus")) as file:
+        test = file.read()
+    proposition = "1:x5=1"
+    for _ in range(62):
+        proposition = "1:x5=1 => " * 63 + f"({proposition})"
+    with open(deep, "w") as file:
+        file.write(test[:test.index("exists")] + f"exists ({proposition})\n")
+    ends("less memory than a stack takes", [rvtl, "replay", "--raw", IMAGE, SCRIPT], 0, ["hart 0: exit 5"], preexec_fn=room(8192))
+    ends("a deep proposition in little memory", [rvtl, "litmus", "--brief", deep], 0, ["note: 1 answered, 1 of them proved"], preexec_fn=room(12288))
+    # The least in which the system loads the program.
+    end = next(end for kib in range(2048, 16384, 128) if (end := ran([rvtl, "--help"], preexec_fn=room(kib))).returncode in (0, 4))
+    told = ["rvtl: out of memory", "note: no thread with a stack of 1024 KiB was to be had"]
+    tell("less memory than the smaller one takes", end.returncode == 4 and end.stderr.decode().splitlines() == told, end)
 
 
 def renamed(program, old, new):
@@ -207,6 +229,29 @@ def behind_a_limit(rvtl, folder):
     ends("harts at their limits", run, 0,
          ["hart 0: run", "hart 1: run",
           "note: harts 0 and 1 hadn't ended when a limit was met: 1000000 instructions of a hart"])
+    waiters = os.path.join(folder, "waiters.bin")
+    with open(waiters, "wb") as file:
+        file.write(WAITERS)
+    ends("harts that wait for one at its limit", [*run[:3], "--harts", "4", *run[5:-1], waiters], 0,
+         ["hart 0: run", *(f"hart {hart}: exit {hart}" for hart in (1, 2, 3)),
+          "note: hart 0 hadn't ended when a limit was met: 1000000 instructions of a hart"])
+
+
+def cut_anywhere(rvtl, folder):
+    """A journal that `head -n` cut is replayed, and how the run begins is judged, where all of it is too long."""
+    journal = os.path.join(folder, "amos.script")
+    amos = os.path.join(folder, "amos.bin")
+    with open(amos, "wb") as file:
+        file.write(AMOS)
+    ran([rvtl, "run", "--raw", "--harts", "2", "--limit", "100000", "--journal", journal, amos])
+    with open(journal) as file:
+        events = file.readlines()
+    for count in (len(events), 2000, 1999, 2, 1):
+        trace = ran([rvtl, "replay", "--raw", amos, "-"], input="".join(events[:count]).encode()).stdout
+        end = ran([rvtl, "check", "-"], input=trace)
+        whole = [b"rvtl: -: check fault 3 TooLong", b"to judge how the run begins, replay its journal cut short, as by `head -n 2000`, which may cut it anywhere"]
+        is_well = end.stdout == b"legal\n" if count <= 2000 else end.returncode == 1 and all(it in end.stderr for it in whole)
+        tell(f"a journal of {count} lines", is_well, end)
 
 
 def stopped(rvtl, folder):
@@ -258,7 +303,7 @@ def too_much_to_draw(rvtl, folder):
     tell("it is refused within two seconds", time.monotonic() < begun + 2, time.monotonic() - begun)
     endless = subprocess.Popen(["sh", "-c", "echo rvtl-trace 1; exec cat /dev/zero"], stdout=subprocess.PIPE, stderr=subprocess.DEVNULL)
     ends("a trace that goes on without an end", [rvtl, "check", "-"], 1,
-         ["rvtl: -: cannot read", "note: it has more than 2147483648 bytes, and no more is read"], stdin=endless.stdout)
+         ["rvtl: -: cannot read", "note: it has more than 2147483648 bytes, and no more is read"], seconds=600, stdin=endless.stdout)
     endless.stdout.close()
     endless.wait()
 
@@ -387,12 +432,13 @@ def main():
         ends("a program without an end", [rvtl, "explore", "/dev/zero"], 1,
              ["rvtl: /dev/zero: cannot read", "note: it has more than 268435456 bytes, and no more is read"])
         steering_words(rvtl)
-        no_room_for_a_stack(rvtl)
+        little_room_for_a_stack(rvtl, folder)
         long_names(rvtl, folder)
         stopped(rvtl, folder)
         until(rvtl)
         ended_by_the_clock(rvtl)
         behind_a_limit(rvtl, folder)
+        cut_anywhere(rvtl, folder)
         another_order(rvtl, folder)
         too_much_to_draw(rvtl, folder)
         memory_ends(rvtl, folder)

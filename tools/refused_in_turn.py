@@ -5,9 +5,10 @@ usage: tools/refused_in_turn.py [NAME..]      rows (row_10 ..) and commands (che
 
 Rows 10, 13, 18 and 34 are played by `gate_comparisons` event by event, as whole lists and on a fabric: whichever allocation is
 refused, it goes on and prints the same. A command of `rvtl` on a small file prints what it prints undisturbed, or ends with status 4 and
-`rvtl: out of memory` behind a beginning of it; an exploration may tell fewer outcomes, each a true one, and says `out of memory` in its last line.
+`rvtl: out of memory` behind a beginning of it. Where the refused memory was a search's, it may tell fewer outcomes or states, each a true one: an
+exploration says `out of memory` in its last line, an audit of fences behind each answer that it leaves undecided, and a litmus test is `Undecided` or has no answer.
 Where the start of a hart's thread is refused in place of an allocation, or memory for one, it says `rvtl: cannot start a thread`, with status 1;
-where that of its own, `out of memory` and how large a stack it asked for, with status 4. `rt ci` has to have built the programs.
+where both of its own are, `out of memory` and how large a stack it asked for at last, with status 4. `rt ci` has to have built the programs.
 
 A program is run once: at each call that may be refused it forks, and in the child the call is refused. A thread runs to its end where it is
 started, so that each child has the whole program; a run has one hart. Prints a line for each row and command with the number of refusals, which
@@ -30,6 +31,9 @@ EXAMPLES = TOP / "examples"
 ROWS = ("row_10", "row_13", "row_18", "row_34")
 # The most seconds that a program may take, and its children one by one.
 SECONDS = 60
+# The end of two harts of which the first passes a message on to the other, whose fence and what stands in place of one.
+PASSED = "hart 0: exit 0   hart 1: exit 0 output 42\n"
+FENCE, NOP = (it.to_bytes(4, "little") for it in (0x0220000F, 0x00000013))
 
 # Beside the program's own calls; the kit's compiler has no C headers. A child's number and status go to the descriptor REFUSED_TELLS, and what it
 # prints and writes into REFUSED_FOLDER: what the program itself had printed until then stands before it.
@@ -130,8 +134,11 @@ def ends(words, shim, kind, folder):
     return whole, [End(folder, name, int(status)) for name, status in children]
 
 
-def commands():
-    """Each command on a small file: its name, and its words behind the program's."""
+def commands(folder):
+    """Each command on a small file: its name, and its words behind the program's. The folder has what `fences` is asked about."""
+    passing, marked, allowed = EXAMPLES / "message_passing_fenced.elf", folder / "marked.elf", folder / "allowed"
+    marked.write_bytes(passing.read_bytes().replace(FENCE, NOP))
+    allowed.write_text(PASSED)
     load, store = EXAMPLES / "load.bin", EXAMPLES / "store_buffering"
     yield "replay", ["replay", "--raw", load, EXAMPLES / "load.script"]
     yield "explain", ["explain", "--raw", load, EXAMPLES / "load.script"]
@@ -149,6 +156,9 @@ def commands():
     yield "explore --show", ["explore", "--harts", "2", "--show", "counter", EXAMPLES / "lost_update.elf"]
     yield "explore --sample", ["explore", "--harts", "2", "--sample", "2", "--seed", "1", f"{store}.elf"]
     yield "explore --architecture", ["explore", "--architecture", "--harts", "2", "--scripts", ".", EXAMPLES / "message_passing_unacquired.elf"]
+    yield "fences", ["fences", "--harts", "2", "--write", "written.elf", passing]
+    yield "fences --allow", ["fences", "--harts", "2", "--allow", allowed, marked]
+    yield "litmus", ["litmus", EXAMPLES / "MP.litmus"]
     yield "help", ["--help"]
 
 
@@ -173,13 +183,42 @@ def memory_wrong(end, whole):
     return f"lines that stand nowhere undisturbed: {end.out[-200:]!r}"
 
 
+def is_left_open(line):
+    """A line of an audit that claims nothing but that a search lacked memory, or counts the searches."""
+    reasoned = line.lstrip().startswith("undecided") and line.endswith(", out of memory")
+    return reasoned or line.startswith(("    undecided: ", "    not asked", "searched: ", "enough together, perhaps more than needed", "missing, perhaps more than needed"))
+
+
+def search_wrong(end, whole, is_open):
+    """The same of a command that answers by searches: where one lacked memory, it tells that, and lines that it tells undisturbed."""
+    wrong = memory_wrong(end, whole)
+    is_told = end.status == 4 and "rvtl: out of memory" in end.err.splitlines() or end.status == whole.status == 3
+    if not wrong or not is_told:
+        return wrong
+    others = [line for line in end.out.splitlines() if line not in whole.out.splitlines() and not is_open(line)]
+    return f"lines that stand nowhere undisturbed: {others}" if others else None
+
+
+def audit_wrong(end, whole):
+    """Where the search with a FENCE that orders less lacked memory, one that orders more is told in its place."""
+    placed = {line.partition("-> fence ")[0] for line in whole.out.splitlines() if line.startswith("missing: ") and "-> fence " in line}
+    return search_wrong(end, whole, lambda line: is_left_open(line) or "-> fence " in line and line.partition("-> fence ")[0] in placed)
+
+
+def litmus_wrong(end, whole):
+    return search_wrong(end, whole, re.compile(r"(States|Positive:|Undecided|Observation \S+ Unknown) ?").match)
+
+
+JUDGES = {"fences": audit_wrong, "fences --allow": audit_wrong, "litmus": litmus_wrong}
+
+
 def row_wrong(end, whole):
     return None if end.is_like(whole) and end.status == 0 else f"status {end.status}, {end.out[-120:]!r}, {end.err[-120:]!r}"
 
 
 def start_wrong(end, whole):
     of_hart = end.status == 1 and end.err.splitlines()[-1:] == ["rvtl: cannot start a thread"]
-    own = ["rvtl: out of memory", "note: no thread with a stack of 8192 KiB was to be had"]
+    own = ["rvtl: out of memory", "note: no thread with a stack of 1024 KiB was to be had"]
     is_told = of_hart or end.status == 4 and end.err.splitlines() == own
     return None if is_told or end.is_like(whole) else f"status {end.status}, {end.err[-120:]!r}"
 
@@ -201,13 +240,14 @@ def main():
         return True
     well = total = 0
     with tempfile.TemporaryDirectory() as folder, ThreadPoolExecutor(os.cpu_count()) as pool:
-        shim = pathlib.Path(folder) / "refuse.so"
-        code = pathlib.Path(folder) / "refuse.c"
+        folder = pathlib.Path(folder)
+        shim, code = folder / "refuse.so", folder / "refuse.c"
         code.write_text(SHIM)
         subprocess.run([compiler, "-O1", "-w", "-fPIC", "-shared", "-nostdlib", "-fuse-ld=lld", "-o", shim, code], check=True)
         tries = [(row, [COMPARISONS, row], "memory", row_wrong) for row in ROWS]
-        tries += [(name, [RVTL, *words], "memory", memory_wrong) for name, words in commands()]
-        tries += [(f"{name}, threads", [RVTL, *words], "thread", start_wrong) for name, words in commands() if name in ("check", "run")]
+        small = list(commands(folder))
+        tries += [(name, [RVTL, *words], "memory", JUDGES.get(name, memory_wrong)) for name, words in small]
+        tries += [(f"{name}, threads", [RVTL, *words], "thread", start_wrong) for name, words in small if name in ("check", "run")]
         tries = [it for it in tries if not wanted or it[0] in wanted]
         for (name, *_), (count, wrong) in zip(tries, pool.map(lambda it: refusals(it[1], shim, *it[2:]), tries)):
             well, total = well + (count > 0 and not wrong), total + count

@@ -14,7 +14,7 @@ use Rattle.std.proofs.lemmas.List.Folds.{Any-from_list_any}
 use Rattle.std.proofs.lemmas.List.Kept.{Any-dedup}
 use Rattle.std.proofs.lemmas.List.Sorted.{Contains-permutation, IsPermutation-map}
 use Rattle.architecture_outcomes.specs.declared.outcome.Outcome.{Outcome}
-use Rattle.architecture_outcomes.specs.Outcomes.{HasSought, TellEach, end_of, ends_of, of_witness, tells}
+use Rattle.architecture_outcomes.specs.Outcomes.{TellEach, end_of, ends_of, of_witness, tells}
 use Rattle.elf_loader.specs.Image.{Initial}
 use Rattle.exploration_text.specs.Orders.{outcome_total, same_outcome}
 use Rattle.exploration_text.specs.Ranks.{outcome_cmp}
@@ -131,16 +131,16 @@ joined_there found beyond joined sorted joined_is moved end told =
     (subst (λ es. Contains es end) (sym (map-append end_of beyond found))
     (⊎_elim (λ f. Contains-append_right (ends_of beyond) (ends_of found) end f) (λ b. Contains-append_left (ends_of beyond) (ends_of found) end b) told)))
 
--- what is sought of the machine is told
-pub machine_sought : (SeeksStops : Type 0) (IsSought Other : End → Type 0) (found beyond joined sorted : List Outcome) → joined ≡ beyond ++ found → IsPermutation joined sorted → HasSought SeeksStops IsSought (ends_of found) → HasSought SeeksStops (λ end. IsSought end ⊎ Other end) (ends_of sorted)
-machine_sought SeeksStops IsSought Other found beyond joined sorted joined_is moved (inl stops) = inl stops
-machine_sought SeeksStops IsSought Other found beyond joined sorted joined_is moved (inr (end, there, is)) = inr (end, joined_there found beyond joined sorted joined_is moved end (inl there), inl is)
+-- an end of the machine that is sought is told
+pub machine_there : (IsSought Other : End → Type 0) (found beyond joined sorted : List Outcome) → joined ≡ beyond ++ found → IsPermutation joined sorted
+    → (end : End) × Contains (ends_of found) end × IsSought end → (end : End) × Contains (ends_of sorted) end × (IsSought end ⊎ Other end)
+machine_there IsSought Other found beyond joined sorted joined_is moved (end, there, is) = (end, joined_there found beyond joined sorted joined_is moved end (inl there), inl is)
 
--- and so is what is sought of the model
-pub model_sought : (SeeksStops : Type 0) (IsSought Other : End → Type 0) (image : Initial) (config : Config) (addresses : List ℕ) (witnesses : List Witness) (found beyond joined sorted : List Outcome) → joined ≡ beyond ++ found → IsPermutation joined sorted
-    → TellEach (endings_of addresses witnesses) found beyond → All (IsWitness image config) witnesses → TellsSought Other addresses witnesses → HasSought SeeksStops (λ end. IsSought end ⊎ Other end) (ends_of sorted)
-model_sought SeeksStops IsSought Other image config addresses witnesses found beyond joined sorted joined_is moved told are (w, there, is) =
+-- and so is one of the model
+pub model_there : (IsSought Other : End → Type 0) (image : Initial) (config : Config) (addresses : List ℕ) (witnesses : List Witness) (found beyond joined sorted : List Outcome) → joined ≡ beyond ++ found → IsPermutation joined sorted
+    → TellEach (endings_of addresses witnesses) found beyond → All (IsWitness image config) witnesses → TellsSought Other addresses witnesses → (end : End) × Contains (ends_of sorted) end × (IsSought end ⊎ Other end)
+model_there IsSought Other image config addresses witnesses found beyond joined sorted joined_is moved told are (w, there, is) =
     let end : End = end_with w.harts.items (map (performed_word w.trace.history) addresses) in
     let is_witness : IsWitness image config w = All-contains (IsWitness image config) witnesses w are there in
     let same : ending_of addresses w.trace.history ≡ end = ap (λ (results : List HartEnd). record { results = results; words = map (performed_word w.trace.history) addresses }) (sym is_witness.outcome) in
-    inr (end, joined_there found beyond joined sorted joined_is moved end (told end (subst (Contains (endings_of addresses witnesses)) same (Contains-map (λ (x : Witness). ending_of addresses x.trace.history) witnesses w there))), inr is)
+    (end, joined_there found beyond joined sorted joined_is moved end (told end (subst (Contains (endings_of addresses witnesses)) same (Contains-map (λ (x : Witness). ending_of addresses x.trace.history) witnesses w there))), inr is)

@@ -4,5 +4,7 @@ mod NeverEnds
 mod Once
 mod Pieces
 mod Searched
+mod StopLines
+mod Stopping
 mod Together
 mod Visited

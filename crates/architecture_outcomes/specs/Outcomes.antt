@@ -63,12 +63,6 @@ IsMachine (Machine script) = Unit {0}
 IsMachine (ModelAlone trace) = ⊥
 IsMachine (Model trace) = ⊥
 
--- ---- what ends a search
-
--- a hart that stops is sought, or one of these ends
-abbrev pub HasSought : (SeeksStops : Type 0) → (IsSought : End → Type 0) → List End → Type 0
-HasSought SeeksStops IsSought ends = SeeksStops ⊎ ((end : End) × Contains ends end × IsSought end)
-
 -- ---- where outcomes come from
 
 abbrev pub of_found : Found → Outcome

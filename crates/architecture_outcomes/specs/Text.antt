@@ -1,10 +1,13 @@
--- The lines in which outcomes are told.
+-- The lines in which outcomes, and harts that stop, are told.
 use Rattle.std.specs.Prelude.{ℕ, ◌+◌, List, [], ◌∷◌, ◌++◌, codes, decimal, length}
 use Rattle.architecture_outcomes.specs.declared.architecture.Architecture.{Architecture}
+use Rattle.architecture_outcomes.specs.declared.failing.Failing.{Failing}
 use Rattle.architecture_outcomes.specs.declared.outcome.Outcome.{Outcome}
 use Rattle.architecture_outcomes.specs.declared.outcome.Way.{Way}
 use Rattle.architecture_outcomes.specs.declared.outcome.Way.TheVariants as way
 use Rattle.architecture_outcomes.specs.Outcomes.{end_of}
+use Rattle.elf_symbols.specs.Named.{Named}
+use Rattle.exploration_text.specs.Failures.{failures_part, stopped_text}
 use Rattle.exploration_text.specs.declared.wording.WordName.{WordName}
 use Rattle.exploration_text.specs.Words.{end_text}
 use Rattle.exploration_text.specs.RealisationVariants.{Events, Limit, NoMemory, Unrealised}
@@ -43,6 +46,20 @@ abbrev pub outcome_lines : MemoryModel → List WordName → ℕ → List Outcom
 outcome_lines model names number [] = []
 outcome_lines model names number (o ∷ os) = outcome_line model names number o ++ outcome_lines model names (number + 1) os
 
+-- ---- harts that stop, whatever the other harts do then
+
+abbrev pub stop_place : List Named → ℕ → Failing → List ℕ
+stop_place symbols number f = codes "failure " ++ (decimal number ++ (codes "  " ++ stopped_text symbols f.failure.hart f.failure.stop))
+
+-- the hart, where it stops and why, and who stops it
+abbrev pub stop_line : MemoryModel → List Named → ℕ → Failing → List ℕ
+stop_line model symbols number f = stop_place symbols number f ++ (codes "   " ++ (way_text model f.way ++ codes "\n"))
+
+-- counted from a number on
+abbrev pub stop_lines : MemoryModel → List Named → ℕ → List Failing → List ℕ
+stop_lines model symbols number [] = []
+stop_lines model symbols number (f ∷ fs) = stop_line model symbols number f ++ stop_lines model symbols (number + 1) fs
+
 -- ---- the last line
 
 -- a hart is followed over no more instructions in a row
@@ -60,7 +77,7 @@ place_text place = codes " (hart " ++ (decimal place.hart ++ (codes " at " ++ (w
 -- how far the search under the model came
 abbrev pub reach_text : Reach → ℕ → List ℕ
 reach_text reach.Whole window = codes ""
-reach_text reach.Unjudged window = codes ", some outcomes left out, as runs of over 4096 operations aren't judged"
+reach_text reach.Unjudged window = codes ", some outcomes or failures left out, as runs of over 4096 operations aren't judged"
 reach_text reach.Unclosed window = codes ", a last pass over the states found more"
 reach_text (reach.WindowMet place) window = window_text window ++ place_text place
 reach_text (reach.ValuesMet place) window = codes ", values of a load over 256 left out" ++ place_text place
@@ -78,12 +95,12 @@ machine_text extent.LimitMet states = codes ", this machine incomplete: " ++ (de
 machine_text (extent.Ended ending) states = codes ", this machine incomplete: ended"
 machine_text extent.OutOfMemory states = codes ", this machine incomplete: out of memory"
 
-abbrev pub count_text : (outcomes states : ℕ) → List ℕ
-count_text outcomes states = decimal outcomes ++ (codes " outcomes, " ++ (decimal states ++ codes " states"))
+abbrev pub count_text : (outcomes failures states : ℕ) → List ℕ
+count_text outcomes failures states = decimal outcomes ++ (codes " outcomes, " ++ (failures_part failures ++ (decimal states ++ codes " states")))
 
 -- neither search met a bound
-abbrev pub whole_line : (outcomes states : ℕ) → List ℕ
-whole_line outcomes states = codes "complete: " ++ (count_text outcomes states ++ codes "\n")
+abbrev pub whole_line : (outcomes failures states : ℕ) → List ℕ
+whole_line outcomes failures states = codes "complete: " ++ (count_text outcomes failures states ++ codes "\n")
 
 abbrev pub ended_text : Ending → List ℕ
 ended_text ending.First = codes "incomplete: ended at the first, "
@@ -95,15 +112,15 @@ ending_before (reach.Ended why) = ended_text why
 ending_before _ = codes "incomplete: "
 
 abbrev pub partial_line : Architecture → List ℕ
-partial_line a = ending_before a.reach ++ (count_text (length a.outcomes.items) a.states ++ (reach_text a.reach a.window ++ (machine_text a.machine a.machine_states ++ codes "\n")))
+partial_line a = ending_before a.reach ++ (count_text (length a.outcomes.items) (length a.failures.items) a.states ++ (reach_text a.reach a.window ++ (machine_text a.machine a.machine_states ++ codes "\n")))
 
 abbrev pub line_by : Reach → Extent → Architecture → List ℕ
-line_by reach.Whole extent.Complete a = whole_line (length a.outcomes.items) a.states
+line_by reach.Whole extent.Complete a = whole_line (length a.outcomes.items) (length a.failures.items) a.states
 line_by _ _ a = partial_line a
 
 abbrev pub last_line : Architecture → List ℕ
 last_line a = line_by a.reach a.machine a
 
--- where words of memory are called so
-abbrev pub architecture_text : List WordName → Architecture → List ℕ
-architecture_text names a = outcome_lines a.model names 1 a.outcomes.items ++ last_line a
+-- where words of memory, and addresses of the program, are called so
+abbrev pub architecture_text : List WordName → List Named → Architecture → List ℕ
+architecture_text names symbols a = outcome_lines a.model names 1 a.outcomes.items ++ (stop_lines a.model symbols 1 a.failures.items ++ last_line a)

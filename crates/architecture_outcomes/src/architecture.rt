@@ -1,5 +1,6 @@
 //! What is found of a program under a memory model.
 
+use crate::failing::Failing;
 use crate::outcome::Outcome;
 use machine_types::MemoryModel;
 use state_search::Extent;
@@ -9,6 +10,8 @@ use window_search::Reach;
 pub struct Architecture {
     /// By hart, status first, then the numbers that were put out; and those of the same results by their words.
     pub outcomes: Vec<Outcome>,
+    /// Harts that stop, whatever the other harts do then, each once with its code and where; those of the machine first.
+    pub failures: Vec<Failing>,
     /// The model under which they are allowed.
     pub model: MemoryModel,
     /// How many operations of a hart might wait.
@@ -28,6 +31,7 @@ impl Drop for Architecture {
     fn drop(self) {
         let Architecture {
             outcomes: _,
+            failures: _,
             model: _,
             window: _,
             reach: _,

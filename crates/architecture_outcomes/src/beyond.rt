@@ -6,10 +6,11 @@ ghost use Rattle.std.specs.Ordering.{on};
 ghost use Rattle.architecture_outcomes.specs.Outcomes.{IsDecided, IsWitnessed, TellEach, TellOnce, end_of, ends_of, tells};
 ghost use Rattle.performed_words.specs.Words.{are_aligned};
 ghost use Rattle.window_search.specs.WindowModelComplete.{TellsEachAllowed};
+ghost use Rattle.window_search.specs.FailingRuns.{TellsEachFailing};
 ghost use Rattle.window_search.specs.Met.{HasMet};
-ghost use Rattle.window_search.specs.Openings.{NeverOpens};
 ghost use Rattle.window_search.specs.LeftOut.{keeps_limit};
-ghost use Rattle.window_search.specs.Told.{TellsSought, endings_of};
+ghost use Rattle.window_search.specs.Stops.{AreOnce, IsFailedRun, TellsFirst, failures_of};
+ghost use Rattle.window_search.specs.Told.{endings_of};
 ghost use Rattle.witnesses.specs.Witnesses.{IsWitness};
 ghost use Rattle.exploration_text.specs.Outcomes.{HasEachEnd};
 ghost use Rattle.exploration_text.specs.Ranks.{outcome_cmp};
@@ -40,11 +41,14 @@ pub(crate) fn search_model<W: Watch, S: Seek>(
     requires words { CanShowEach image.now addresses.now }
     ensures allowed { result.reach ≡ Reach.Whole → TellsEachAllowed image.now config addresses.now (endings_of addresses.now result.witnesses.items) }
     ensures witnessed { All (IsWitness image.now config) result.witnesses.items }
-    ensures opens { result.reach ≡ Reach.Whole → result.states ≡ 0 → NeverOpens image.now config }
+    ensures failing { result.reach ≡ Reach.Whole → TellsEachFailing image.now config (failures_of result.failures.items) }
+    ensures failed { All (IsFailedRun image.now config) result.failures.items }
+    ensures failed_once { AreOnce (failures_of result.failures.items) }
+    ensures opens { result.reach ≡ Reach.Whole → 0 < result.states }
     ensures bounded { keeps_limit result.reach ≡ true → result.states ≤ limit }
     ensures limited { result.reach ≡ Reach.LimitMet → limit < result.states }
     ensures met { HasMet image.now window result.reach }
-    ensures first { result.reach ≡ Reach.Ended Ending.First → (machine ≡ Extent.Ended Ending.First) ⊎ TellsSought (S.IsSought seek.now) addresses.now result.witnesses.items }
+    ensures first { result.reach ≡ Reach.Ended Ending.First → (machine ≡ Extent.Ended Ending.First) ⊎ TellsFirst (S.SeeksStops seek.now) (S.IsSought seek.now) addresses.now result.witnesses.items result.failures.items }
     ensures timed { result.reach ≡ Reach.Ended Ending.Time → (machine ≡ Extent.Ended Ending.Time) ⊎ S.IsTimed seek.now }
 {
     if let Extent::Ended(ending) = machine {
@@ -62,9 +66,11 @@ fn nothing(alloc: Global, reach: Reach) -> Allowed
     ensures reach { result.reach ≡ reach }
     ensures states { result.states ≡ 0 }
     ensures witnesses { result.witnesses.items ≡ [] }
+    ensures failures { result.failures.items ≡ [] }
 {
     Allowed {
         witnesses: Vec::new(alloc),
+        failures: Vec::new(alloc),
         reach,
         states: 0,
     }

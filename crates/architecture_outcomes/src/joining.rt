@@ -2,18 +2,21 @@
 ghost use Rattle.std.specs.Prelude.{◌≡◌, ◌<◌, ◌≤◌, ◌⊎◌, All, IfOk, List, min, true};
 ghost use Rattle.std.specs.List.Sorted.{IsStrictlySortedBy};
 ghost use Rattle.std.specs.Ordering.{on};
-ghost use Rattle.architecture_outcomes.specs.Outcomes.{HasSought, IsDecided, IsWitnessed, TellsEachEnd, end_of, ends_of};
+ghost use Rattle.architecture_outcomes.specs.Failings.{HasSought, IsDecidedStop, IsShown, TellsEachStop, failures_in};
+ghost use Rattle.architecture_outcomes.specs.Outcomes.{IsDecided, IsWitnessed, TellsEachEnd, end_of, ends_of};
 ghost use Rattle.architecture_outcomes.specs.Visited.{AreMachineStates, TellsEnd};
 ghost use Rattle.witnesses.specs.Flat.{Flat};
 ghost use Rattle.window_search.specs.WindowModelComplete.{TellsEachAllowed};
 ghost use Rattle.window_search.specs.LeftOut.{keeps_limit};
 ghost use Rattle.window_search.specs.Met.{HasMet};
-ghost use Rattle.window_search.specs.Openings.{NeverOpens};
+ghost use Rattle.window_search.specs.FailingRuns.{TellsEachFailing};
+ghost use Rattle.window_search.specs.Stops.{AreOnce};
 ghost use Rattle.exploration_text.specs.Ranks.{outcome_cmp};
 ghost use Rattle.performed_words.specs.Words.{CanShowEach};
 
 use crate::architecture::Architecture;
 use crate::beyond::{beyond, search_model};
+use crate::failing::add_each_beyond;
 use crate::machine::{Machine, search_machine};
 use elf_loader::Image;
 use exploration_text::explorer::Exploring;
@@ -49,7 +52,7 @@ impl<W: Watch> Watch for Behind<'_, W> {
     }
 }
 
-/// Finds the outcomes that the machine comes to, and searches for those that its memory model allows, with at most
+/// Finds the outcomes that the machine comes to and the harts that it stops, and searches for those that its memory model allows, with at most
 /// `window` operations of a hart waiting at a time (64 where that is more), each until it has found as many states as
 /// the limit, `machine` or `model` ends it, or memory does; the second isn't made where the first is ended. Meanwhile `watch` is told how far they are. An outcome shows the words of memory
 /// at these addresses, in their order, behind all operations. What was found then stands. The error is that there was no
@@ -84,18 +87,26 @@ pub fn explore_architecture<W: Watch, M: exploration_text::explorer::Seek, S: Se
     // Where the search under the model left nothing out, each outcome that the model allows is told.
     ensures allowed { IfOk result (λ a. a.reach ≡ Reach.Whole → TellsEachAllowed image.now config addresses.now (ends_of a.outcomes.items)) }
 
-    // The search under the model finds no state only where a hart never comes from reset to an access or its end, or says
-    // that it left out more.
-    ensures opens { IfOk result (λ a. a.reach ≡ Reach.Whole → a.states ≡ 0 → NeverOpens image.now config) }
+    // And each hart that stops in a run that it allows, whatever the others do then.
+    ensures failing { IfOk result (λ a. a.reach ≡ Reach.Whole → TellsEachFailing image.now config (failures_in a.failures.items)) }
+
+    // What is said to show a hart that stops does, and none is told twice. Where the machine's own search is complete, each
+    // that it stops is told as one of the machine, and each other as the model's alone.
+    ensures stopped { IfOk result (λ a. All (IsShown image.now config addresses.now) a.failures.items) }
+    ensures stopped_once { IfOk result (λ a. AreOnce (failures_in a.failures.items)) }
+    ensures stopped_machine { IfOk result (λ a. a.machine ≡ Extent.Complete → TellsEachStop image.now config a.failures.items) }
+    ensures stopped_alone { IfOk result (λ a. a.machine ≡ Extent.Complete → All IsDecidedStop a.failures.items) }
+
+    // The search under the model finds no state only where it says that it left out more.
+    ensures opens { IfOk result (λ a. a.reach ≡ Reach.Whole → 0 < a.states) }
     ensures bounded { IfOk result (λ a. keeps_limit a.reach ≡ true → a.states ≤ exploring.limit) }
     ensures limited { IfOk result (λ a. a.reach ≡ Reach.LimitMet → exploring.limit < a.states) }
 
     // The bound that it says it met was met, and there.
     ensures met { IfOk result (λ a. HasMet image.now a.window a.reach) }
 
-    // It ends at the first that is sought only where it tells one, or where a hart that stops is sought, and as its time is up only
-    // where it has one.
-    ensures first { IfOk result (λ a. a.reach ≡ Reach.Ended Ending.First → HasSought (M.SeeksStops machine.now) (λ end. M.IsSought machine.now end ⊎ S.IsSought model.now end) (ends_of a.outcomes.items)) }
+    // It ends at the first that is sought only where it tells one, and as its time is up only where it has one.
+    ensures first { IfOk result (λ a. a.reach ≡ Reach.Ended Ending.First → HasSought (M.SeeksStops machine.now ⊎ S.SeeksStops model.now) (λ end. M.IsSought machine.now end ⊎ S.IsSought model.now end) a.failures.items (ends_of a.outcomes.items)) }
     ensures timed { IfOk result (λ a. a.reach ≡ Reach.Ended Ending.Time → M.IsTimed machine.now ⊎ S.IsTimed model.now) }
 
     // No outcome is told twice.
@@ -109,6 +120,7 @@ pub fn explore_architecture<W: Watch, M: exploration_text::explorer::Seek, S: Se
     let window = window.min(WIDEST as u32);
     let Machine {
         outcomes: mut found,
+        failures: mut stopped,
         extent,
         states: machine_states,
     } = search_machine(alloc, image, config, addresses, exploring, watch, machine)?;
@@ -116,24 +128,28 @@ pub fn explore_architecture<W: Watch, M: exploration_text::explorer::Seek, S: Se
     let limit = exploring.limit;
     let Allowed {
         witnesses,
+        failures,
         reach,
         states,
     } = search_model(
         alloc, image, config, addresses, window, limit, extent, &behind, model,
     );
+    let is_complete = extent.is_complete();
     let mut outcomes = beyond(
         alloc,
         image,
         config,
         addresses,
         &found,
-        extent.is_complete(),
+        is_complete,
         witnesses,
     )?;
     outcomes.append(&mut found)?;
     outcomes.sort_unstable();
+    add_each_beyond(&mut stopped, failures, is_complete)?;
     Ok(Architecture {
         outcomes,
+        failures: stopped,
         model: config.model,
         window,
         reach,

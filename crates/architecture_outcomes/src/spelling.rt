@@ -5,9 +5,12 @@ ghost use Rattle.architecture_outcomes.specs.Text as text;
 ghost use Rattle.exploration_text.specs.Words.{end_text};
 
 use crate::architecture::Architecture;
+use crate::failing::Failing;
 use crate::outcome::{Outcome, Way};
+use elf_symbols::Symbols;
 use exploration_text::explorer::Realisation;
-use exploration_text::{WordName, end_text};
+use exploration_text::explorer::flat_exploration::Failure;
+use exploration_text::{WordName, end_text, spell_failure_count, stopped_text};
 use itoa::Buffer;
 use machine_types::MemoryModel;
 use state_search::{Ending, Extent};
@@ -101,6 +104,60 @@ fn spell_outcomes(
     Ok(())
 }
 
+fn spell_stop_place(
+    alloc: Global,
+    into: &mut Vec<u8>,
+    symbols: &Symbols,
+    number: usize,
+    failing: &Failing,
+) -> Result<(), AllocError>
+    ensures { OnOk result (into.new.items ≡ into.old.items ++ text.stop_place symbols.now number failing.now) }
+{
+    into.extend_from_slice(b"failure ")?;
+    spell_number(into, number as u64)?;
+    into.extend_from_slice(b"  ")?;
+    let Failure { hart, stop } = failing.failure;
+    let place = stopped_text(alloc, symbols, hart, stop)?;
+    into.extend_from_slice(&place)?;
+    Ok(())
+}
+
+fn spell_stop(
+    alloc: Global,
+    into: &mut Vec<u8>,
+    model: MemoryModel,
+    symbols: &Symbols,
+    number: usize,
+    failing: &Failing,
+) -> Result<(), AllocError>
+    ensures { OnOk result (into.new.items ≡ into.old.items ++ text.stop_line model symbols.now number failing.now) }
+{
+    spell_stop_place(alloc, into, symbols, number, failing)?;
+    into.extend_from_slice(b"   ")?;
+    spell_way(into, model, &failing.way)?;
+    into.extend_from_slice(b"\n")?;
+    Ok(())
+}
+
+fn spell_stops(
+    alloc: Global,
+    into: &mut Vec<u8>,
+    model: MemoryModel,
+    symbols: &Symbols,
+    failings: &[Failing],
+) -> Result<(), AllocError>
+    ensures { OnOk result (into.new.items ≡ into.old.items ++ text.stop_lines model symbols.now 1 failings.now) }
+{
+    let mut rest = failings;
+    let mut number = 1;
+    while let [first, tail @ ..] = rest {
+        spell_stop(alloc, into, model, symbols, number, first)?;
+        rest = tail;
+        number += 1;
+    }
+    Ok(())
+}
+
 fn spell_rows(into: &mut Vec<u8>, longest: u32) -> Result<(), AllocError>
     ensures { OnOk result (into.new.items ≡ into.old.items ++ text.rows_text longest) }
 {
@@ -146,7 +203,7 @@ fn spell_reach(into: &mut Vec<u8>, reach: Reach, window: u32) -> Result<(), Allo
         Reach::Whole => {}
         Reach::Unjudged => {
             into.extend_from_slice(
-                b", some outcomes left out, as runs of over 4096 operations aren't judged",
+                b", some outcomes or failures left out, as runs of over 4096 operations aren't judged",
             )?;
         }
         Reach::Unclosed => {
@@ -195,21 +252,32 @@ fn spell_machine(into: &mut Vec<u8>, extent: Extent, states: usize) -> Result<()
     Ok(())
 }
 
-fn spell_counts(into: &mut Vec<u8>, outcomes: usize, states: usize) -> Result<(), AllocError>
-    ensures { OnOk result (into.new.items ≡ into.old.items ++ text.count_text outcomes states) }
+fn spell_counts(
+    into: &mut Vec<u8>,
+    outcomes: usize,
+    failures: usize,
+    states: usize,
+) -> Result<(), AllocError>
+    ensures { OnOk result (into.new.items ≡ into.old.items ++ text.count_text outcomes failures states) }
 {
     spell_number(into, outcomes as u64)?;
     into.extend_from_slice(b" outcomes, ")?;
+    spell_failure_count(into, failures)?;
     spell_number(into, states as u64)?;
     into.extend_from_slice(b" states")?;
     Ok(())
 }
 
 fn spell_whole(into: &mut Vec<u8>, found: &Architecture) -> Result<(), AllocError>
-    ensures { OnOk result (into.new.items ≡ into.old.items ++ text.whole_line (length found.now.outcomes.items) found.now.states) }
+    ensures { OnOk result (into.new.items ≡ into.old.items ++ text.whole_line (length found.now.outcomes.items) (length found.now.failures.items) found.now.states) }
 {
     into.extend_from_slice(b"complete: ")?;
-    spell_counts(into, found.outcomes.len(), found.states)?;
+    spell_counts(
+        into,
+        found.outcomes.len(),
+        found.failures.len(),
+        found.states,
+    )?;
     into.extend_from_slice(b"\n")?;
     Ok(())
 }
@@ -239,7 +307,12 @@ fn spell_partial(into: &mut Vec<u8>, found: &Architecture) -> Result<(), AllocEr
     ensures { OnOk result (into.new.items ≡ into.old.items ++ text.partial_line found.now) }
 {
     spell_ending(into, found.reach)?;
-    spell_counts(into, found.outcomes.len(), found.states)?;
+    spell_counts(
+        into,
+        found.outcomes.len(),
+        found.failures.len(),
+        found.states,
+    )?;
     spell_reach(into, found.reach, found.window)?;
     spell_machine(into, found.machine, found.machine_states)?;
     into.extend_from_slice(b"\n")?;
@@ -255,17 +328,19 @@ fn spell_last(into: &mut Vec<u8>, found: &Architecture) -> Result<(), AllocError
     }
 }
 
-/// A line for each outcome, in order and counted from 1, with the words by these names, and who comes to it; and one that
-/// says how far the searches came.
+/// A line for each outcome, in order and counted from 1, with the words by these names, and who comes to it; one for each
+/// hart that stops, its place by the names of these symbols, and who stops it; and one that says how far the searches came.
 pub fn text_of(
     alloc: Global,
     names: &[WordName<'_>],
+    symbols: &Symbols,
     found: &Architecture,
 ) -> Result<Vec<u8>, AllocError>
-    ensures { IfOk result (λ bytes. bytes.items ≡ text.architecture_text names.now found.now) }
+    ensures { IfOk result (λ bytes. bytes.items ≡ text.architecture_text names.now symbols.now found.now) }
 {
     let mut bytes = Vec::new(alloc);
     spell_outcomes(alloc, &mut bytes, found.model, names, &found.outcomes)?;
+    spell_stops(alloc, &mut bytes, found.model, symbols, &found.failures)?;
     spell_last(&mut bytes, found)?;
     Ok(bytes)
 }

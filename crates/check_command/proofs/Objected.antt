@@ -45,6 +45,18 @@ module _ (IsLine : Broken → List ℕ → Type 0) (listed : List Broken) (a b c
 pub none_told : (IsLine : Broken → List ℕ → Type 0) (a : Option (List ℕ)) → (bytes : List ℕ) × AreBreachLines IsLine [] bytes × Appends a a bytes
 none_told IsLine a = ([], refl, appends_none a)
 
+-- the lines, or a beginning of them
+pub told_first : {T E : Type 0} (IsLine : Broken → List ℕ → Type 0) (breaches : List Broken) (a b : Option (List ℕ)) (r : Result T E) → WritesLines IsLine breaches a b r → BeginsLines IsLine breaches a b
+told_first IsLine breaches a b (Ok _) (bytes, are, sent) = record {
+  front = breaches;
+  rest = [];
+  parts = sym (append-nil breaches);
+  bytes = bytes;
+  lines = are;
+  begun = record { front = bytes; rest = []; parts = sym (append-nil bytes); sent = sent };
+}
+told_first IsLine breaches a b (Err _) begun = begun
+
 -- what is told of a breach, with its parts by other names
 pub told_as : (profile : Profile) (text : LogText) (broken : Broken) (h k : ℕ) (log entries : List Logged) (found told : Option Told) → h ≡ k → log ≡ entries → found ≡ told
     → IsBreachTold profile h log text broken found → IsBreachTold profile k entries text broken told

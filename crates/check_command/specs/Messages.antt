@@ -1,13 +1,15 @@
 -- What a check of messages has done.
 use Rattle.std.specs.Io.KnownBytes.{Appends}
-use Rattle.std.specs.Prelude.{◌≡◌, ◌⊎◌, ◌==◌, ◌++◌, [], ℕ, Bool, true, false, IfSome, List, None, Option, Some, if◌then◌else◌, not}
+use Rattle.std.specs.Prelude.{◌≡◌, ◌⊎◌, ◌==◌, ◌++◌, [], ℕ, Bool, true, false, IfSome, IsTrue, List, None, Option, Some, if◌then◌else◌, not}
 use Rattle.std.specs.List.{list_any}
 use Rattle.command_files.specs.Faults.{IsLongFirst, Name}
+use Rattle.check_command.specs.Breaches.{BeginsLines, IsBreachLine, breaches_told}
 use Rattle.check_command.specs.Checking.{GoOnBehindATrace, IsNoTraceText}
 use Rattle.check_command.specs.declared.messages.MessageCheck.{MessageCheck}
 use Rattle.command_files.specs.Contents.{Contents, is_input}
 use Rattle.command_files.specs.declared.fault.Fault.TheVariants.{BytesAfterTrace, CannotRead, CannotWrite, OutOfMemory, Text}
 use Rattle.command_files.specs.declared.fault.Fault.{Fault}
+use Rattle.command_files.specs.Messages.{is_plain}
 use Rattle.elf_loader.specs.Image.{Initial}
 use Rattle.log_text.specs.Ending as ending
 use Rattle.log_text.specs.Meant.{meant, source_line}
@@ -21,6 +23,7 @@ use Rattle.log_text.specs.MessageBreach.TheVariants.{Unanswered, Unwritten}
 use Rattle.log_text.specs.MessageVerdict.{MessageVerdict}
 use Rattle.log_text.specs.MessageVerdict.TheVariants.{Lawful, Unlawful}
 use Rattle.log_text.specs.Profile.{Profile}
+use Rattle.log_text.specs.declared.place.LogText.{LogText}
 use Rattle.text_fields.specs.Writing.{Begins}
 use Rattle.trace_recorder.specs.History.{History}
 use Rattle.trace_recorder.specs.declared.logged.Logged.{Logged}
@@ -46,16 +49,15 @@ IsUnlawful profile trace = (breach : MessageBreach) × (index : ℕ) × IsVerdic
 abbrev pub IsReadFar : (name : List ℕ) → MessageCheck → History → (rest : List ℕ) → Type 0
 IsReadFar name check trace rest = (rest ≡ []) ⊎ ((is_input name ≡ true) × (check.all ≡ false) × IsUnlawful check.profile trace)
 
--- these bytes, behind which no others have to be read, stand for this trace
-pub record IsLogIn (name : List ℕ) (check : MessageCheck) (trace : History) (known read rest : List ℕ) : Type 0 where
-  pub parts : known ≡ read ++ rest
-  pub bytes : text_meant check.skip read ≡ text trace
-  pub far : IsReadFar name check trace rest
+-- a file of these bytes begins with what was read, and no more of it has to be read
+abbrev pub BeginsWithLog : (name : List ℕ) → MessageCheck → History → (read known : List ℕ) → Type 0
+BeginsWithLog name check trace read known = (rest : List ℕ) × (known ≡ read ++ rest) × IsReadFar name check trace rest
 
--- the file has the text of this trace, and nothing else that has to be read, but for names, for what is held at the start, and for what is skipped
-pub record HoldsLog (held : Contents) (name : List ℕ) (check : MessageCheck) (trace : History) : Type 0 where
+-- what was read of the file is the text of this trace, but for names, for what is held at the start, and for what is skipped, and nothing else of it has to be read
+pub record HoldsLog (held : Contents) (name : List ℕ) (check : MessageCheck) (trace : History) (read : List ℕ) : Type 0 where
   pub is_trace : IsTrace trace
-  pub bytes : IfSome (held name) (λ known. (read : List ℕ) × (rest : List ℕ) × IsLogIn name check trace known read rest)
+  pub text : text_meant check.skip read ≡ text trace
+  pub bytes : IfSome (held name) (BeginsWithLog name check trace read)
 
 abbrev pub is_unanswered : MessageBreach → Bool
 is_unanswered Unanswered = true
@@ -86,8 +88,9 @@ AreListed false profile memory log breaches = breaches ≡ None
 -- what was appended is the verdict on the trace in the file by the profile's rules, or all breaches of its messages
 pub record IsLogJudged (held : Contents) (name : List ℕ) (check : MessageCheck) (verdict : MessageVerdict) (old new : Option (List ℕ)) : Type 0 where
   pub trace : History
+  pub read : List ℕ
   pub breaches : Option Breaches
-  pub file : HoldsLog held name check trace
+  pub file : HoldsLog held name check trace read
   pub judged : IsTraceVerdict check.ended check.profile trace verdict
   pub listed : AreListed check.all check.profile (memory_told trace.image) trace.log breaches
   pub printed : Appends old new (told_text verdict breaches)
@@ -95,12 +98,31 @@ pub record IsLogJudged (held : Contents) (name : List ℕ) (check : MessageCheck
 -- the output took no more than a beginning of that
 pub record IsLogCutOff (held : Contents) (name : List ℕ) (check : MessageCheck) (old new : Option (List ℕ)) : Type 0 where
   pub trace : History
+  pub read : List ℕ
   pub verdict : MessageVerdict
   pub breaches : Option Breaches
-  pub file : HoldsLog held name check trace
+  pub file : HoldsLog held name check trace read
   pub judged : IsTraceVerdict check.ended check.profile trace verdict
   pub listed : AreListed check.all check.profile (memory_told trace.image) trace.log breaches
   pub begun : Begins old new (told_text verdict breaches)
+
+-- the text is what was read, with what that stands for
+pub record IsTextOf (skip : Bool) (read : List ℕ) (text : LogText) : Type 0 where
+  pub source : text.source.now ≡ read
+  pub skipped : text.skip ≡ skip
+  pub meant : text.meant.now ≡ meant skip read
+
+-- standard error has the line of each message of the file that is told to break a rule, or, where it takes no more, a beginning of these lines
+pub record AreObjected (held : Contents) (name : List ℕ) (check : MessageCheck) (verdict : MessageVerdict) (before after : Option (List ℕ)) : Type 0 where
+  pub trace : History
+  pub read : List ℕ
+  pub text : LogText
+  pub breaches : Option Breaches
+  pub file : HoldsLog held name check trace read
+  pub judged : IsTraceVerdict check.ended check.profile trace verdict
+  pub listed : AreListed check.all check.profile (memory_told trace.image) trace.log breaches
+  pub of_file : IsTextOf check.skip read text
+  pub told : IsTrue (is_plain name) → BeginsLines (IsBreachLine check.profile trace text name) (breaches_told verdict breaches) before after
 
 -- a refusal of what is meant, at the line of the file that stands for it
 abbrev pub at_source : (skip : Bool) → List ℕ → TextError → TextError

@@ -6,8 +6,8 @@ ghost use Rattle.std.specs.List.{list_any};
 ghost use Rattle.text_fields.specs.Writing.{Writes};
 ghost use Rattle.log_text.specs.Verdicts.{told_text};
 ghost use Rattle.check_command.specs.Breaches.{IsBreachLine, WritesLines, breaches_told, told_line};
-ghost use Rattle.check_command.specs.Messages.{AreListed, IsLogCutOff, HoldsLog, IsLogFault, IsLogJudged, IsMeantFault, IsTraceVerdict, are_lawful_by, is_unanswered, memory_told, sourced, text_meant, with_unwritten};
-ghost use Rattle.check_command.specs.Piped.{HasPiped, IsLogOf};
+ghost use Rattle.check_command.specs.Messages.{AreListed, AreObjected, IsLogCutOff, IsLogFault, IsLogJudged, IsMeantFault, IsTraceVerdict, are_lawful_by, is_unanswered, memory_told, sourced, text_meant, with_unwritten};
+ghost use Rattle.check_command.specs.Piped.{HasPiped, IsLogOf, IsLogRead};
 ghost use Rattle.log_text.specs.Ending as ending;
 ghost use Rattle.log_text.specs.Meant as meaning;
 ghost use Rattle.log_text.specs.Names.{without_names};
@@ -73,6 +73,7 @@ pub fn check_messages<'a, F: Files, O: Write, E: Write>(
         (IsLogCutOff (F.held files.old) file.entry.now check (O.contents out.old) (O.contents out.new))) }
     ensures told { IfErr result (IsLogFault (F.held files.old) check.skip file.entry) }
     ensures spared { F.held files.new ≡ F.held files.old }
+    ensures noted { IfOk result (λ verdict. AreObjected (F.held files.old) file.entry.now check verdict (E.contents err.old) (E.contents err.new)) }
     ensures quiet { IfOk result (λ verdict. verdict ≡ MessageVerdict.Lawful → E.contents err.new ≡ E.contents err.old) }
     ensures silent { OnErr result (E.contents err.new ≡ E.contents err.old) }
 {
@@ -106,7 +107,11 @@ pub(crate) struct ReadLog {
 }
 
 impl ReadLog {
-    fn text(&self, skip: bool) -> LogText<'_> {
+    fn text(&self, skip: bool) -> LogText<'_>
+        ensures source { result.source.now ≡ self.now.bytes.items }
+        ensures skip { result.skip ≡ skip }
+        ensures meant { result.meant.now ≡ self.now.meant.items }
+    {
         LogText {
             source: self.bytes.as_slice(),
             skip,
@@ -123,7 +128,7 @@ fn read_log<'a, F: Files>(
     file: &'a str,
     check: MessageCheck,
 ) -> Result<ReadLog, Fault<'a>>
-    ensures read { IfOk result (λ read. HoldsLog (F.held files.old) file.entry.now check read.trace.history) }
+    ensures read { IfOk result (IsLogRead (F.held files.old) file.entry.now check) }
     ensures told { IfErr result (IsLogFault (F.held files.old) check.skip file.entry) }
     ensures reading { IfErr result (λ fault. fault ≢ Fault.CannotWrite) }
     ensures spared { F.held files.new ≡ F.held files.old }
@@ -171,7 +176,7 @@ fn log_in<'a, F: Files>(
     bytes: Vec<u8>,
     skip: bool,
 ) -> Result<ReadLog, Fault<'a>>
-    ensures read { IfOk result (λ read. IsLogOf skip bytes.items read.trace.history) }
+    ensures read { IfOk result (IsLogOf skip bytes.items) }
     ensures told { IfErr result (IsMeantFault skip bytes.items file.entry) }
     ensures spared { F.held files.new ≡ F.held files.old }
 {

@@ -47,7 +47,7 @@ impl Watch {
         check: MessageCheck,
     ) -> Result<Option<ReadLog>, AllocError>
         requires { HasJudged self.old.judge }
-        ensures broken { IfOk result (λ found. IfSome found (λ log. IsBrokenBy bytes.now check log.trace.history)) }
+        ensures broken { IfOk result (λ found. IfSome found (IsBrokenBy bytes.now check)) }
         ensures judged { IfOk result (λ found. HasJudged self.new.judge) }
     {
         let lines = whole_lines(bytes);
@@ -171,7 +171,7 @@ fn has_breach(
 
 /// The log whose text this is, if it is one.
 fn log_of(alloc: Global, text: &[u8], skip: bool) -> Result<Option<ReadLog>, AllocError>
-    ensures { IfOk result (λ found. IfSome found (λ log. IsLogOf skip text.now log.trace.history)) }
+    ensures { IfOk result (λ found. IfSome found (IsLogOf skip text.now)) }
 {
     let meant = meant_text(alloc, text, skip)?;
     let whole = text_meant(alloc, meant.as_slice())?;
@@ -195,7 +195,7 @@ fn unlawful_log(
     lines: &[u8],
     check: MessageCheck,
 ) -> Result<Option<ReadLog>, AllocError>
-    ensures { IfOk result (λ found. IfSome found (λ log. IsLogOf check.skip lines.now log.trace.history × IsUnlawful check.profile log.trace.history)) }
+    ensures { IfOk result (λ found. IfSome found (λ log. IsLogOf check.skip lines.now log × IsUnlawful check.profile log.trace.history)) }
 {
     let Some(log) = log_of(alloc, lines, check.skip)? else {
         return Ok(None);

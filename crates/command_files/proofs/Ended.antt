@@ -4,7 +4,7 @@ use Rattle.std.proofs.lemmas.List.{append-nil}
 use Rattle.std.proofs.Math.Seq.{take-length}
 use Rattle.command_files.specs.Ends.{hart_line, hart_lines, ends_of}
 use Rattle.hart.specs.declared.status.Status.{Status}
-use Rattle.machine_traces.specs.Views.{Node, State}
+use Rattle.machine_model.specs.Views.{Node, State}
 use Rattle.text_fields.specs.Writing.{Begins, Writes}
 use Rattle.trace_recorder.specs.History.{History}
 

@@ -4,11 +4,11 @@ use Rattle.event_stream.specs.Machine.{IsReached, Replayed, replayed_from}
 use Rattle.command_files.specs.Composition.{Leads}
 use Rattle.command_files.specs.Sizes.{config_of}
 use Rattle.elf_loader.specs.Image.{Initial}
-use Rattle.machine_traces.specs.Views.{State, opening}
+use Rattle.machine_model.specs.Views.{State, opening}
 use Rattle.machine_types.specs.declared.config.Config.{Config}
 use Rattle.machine_types.specs.declared.event.Event.{Event}
 use Rattle.machine_types.specs.declared.model.MemoryModel.{MemoryModel}
-use Rattle.machine_traces.specs.MachineTraces.{EveryTraceHasAText}
+use Rattle.command_files.specs.MachineTraces.{EveryTraceHasAText}
 use Rattle.trace_text.specs.TraceLimits.{IsTrace}
 use Rattle.trace_text.specs.declared.script.Script.{Script}
 

@@ -2,9 +2,9 @@
 use Rattle.std.specs.Prelude.{ℕ, ◌≡◌, List, Option}
 use Rattle.command_files.specs.Sizes.{config_of}
 use Rattle.elf_loader.specs.Image.{Initial}
-use Rattle.machine_traces.specs.LawfulLog.{IsLawfulLog}
-use Rattle.machine_traces.specs.Laws.{IsHeadline}
-use Rattle.machine_traces.specs.Views.{State, opening}
+use Rattle.machine_model.specs.LawfulLog.{IsLawfulLog}
+use Rattle.machine_model.specs.Laws.{IsHeadline}
+use Rattle.machine_model.specs.Views.{State, opening}
 use Rattle.machine_types.specs.declared.model.MemoryModel.{MemoryModel}
 use Rattle.event_stream.specs.Machine.{Replayed, replayed_from}
 use Rattle.std.specs.Io.KnownBytes.{Appends}

@@ -2,7 +2,7 @@
 use Rattle.std.specs.Prelude.{ℕ, ◌+◌, List, [], ◌∷◌, ◌++◌, codes, map}
 use Rattle.hart.specs.declared.status.Status.{Status}
 use Rattle.hart_ends.specs.Ends.{hart_text}
-use Rattle.machine_traces.specs.Views.{State}
+use Rattle.machine_model.specs.Views.{State}
 
 abbrev pub hart_line : ℕ → Status → List ℕ → List ℕ
 hart_line hart status output = hart_text hart status output ++ codes "\n"

@@ -9,7 +9,7 @@ use Rattle.event_stream.specs.Lines.{script_line_of}
 use Rattle.command_settings.specs.declared.wanted.Replay.{Replay}
 use Rattle.elf_loader.specs.Image.{Initial}
 use Rattle.elf_loader.specs.declared.error.LoadError.{LoadError}
-use Rattle.machine_traces.specs.Views.{opening}
+use Rattle.machine_model.specs.Views.{opening}
 use Rattle.event_stream.specs.ApplyError.{ApplyError}
 use Rattle.std.specs.Borrow.{Bor}
 use Rattle.std.specs.Prelude.{◌≡◌, ◌≢◌, ◌⊎◌, ◌*◌, ℕ, Bool, Err, List, Option}

@@ -1,9 +1,12 @@
+pub mod Addresses
 pub mod Allowing
 pub mod Composition
 pub mod Ends
 pub mod Faults
 pub mod Files
+pub mod MachineTraces
 pub mod Messages
+pub mod Named
 pub mod Contents
 pub mod Sizes
 pub mod Sources

@@ -2,7 +2,7 @@
 use Rattle.std.proofs.Common.{◌≡◌, ◌∙◌, ◌⊎◌, ℕ, Bool, true, false, Err, IfErr, IfOk, IfSome, IsSomeAnd, List, None, Ok, Option, Result, Some, ap, inl, inr, refl, subst, sym}
 use Rattle.std.specs.Io.KnownBytes.{Appends}
 use Rattle.std.specs.Prelude.{nat_lt}
-use Rattle.script_commands.specs.Addresses.{address}
+use Rattle.command_files.specs.Addresses.{address}
 use Rattle.script_commands.specs.Charting.{IsAddress}
 use Rattle.command_files.proofs.Left.{either}
 use Rattle.command_files.specs.Faults.{Name}

@@ -4,7 +4,7 @@ use Rattle.std.proofs.lemmas.Bool.{false≢true}
 use Rattle.std.proofs.lemmas.Slice.Eq.{bytes_eq-Decides}
 use Rattle.std.specs.Str.{bytes_eq}
 use Rattle.explore_command.specs.Searching.{IsSearchFault}
-use Rattle.script_commands.specs.Addresses.{address}
+use Rattle.command_files.specs.Addresses.{address}
 use Rattle.script_commands.specs.Charting.{IsNoAddress}
 use Rattle.clap.specs.Words.{Text}
 use Rattle.command_files.proofs.Left.{only_configuration}

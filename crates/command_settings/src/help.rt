@@ -154,10 +154,11 @@ With --first the search ends at the first hart that stops, and at the first outc
 --allow; the last line is then
   incomplete: ended at the first, M states met
 The machine carries loads out as they retire, so that what a missing fence between two loads allows is
-not among the outcomes. With --architecture it is: behind each outcome stands whether this machine shows
-it, or the memory model alone allows it; its words are those behind all operations. It doesn't look for states
-from which no schedule ends. The last line is
+not among the outcomes. With --architecture it is: behind each outcome and failure stands whether this
+machine shows it, or the memory model alone allows it; its words are those behind all operations. It doesn't look
+for states from which no schedule ends. The last line is
   complete: N outcomes, M states      no order that the memory model allows brings the program to another end
+                                      or failure
 or incomplete: and the limit that was met. With --sample, random runs are made and counted instead, each of
 at most 1,000,000 tried events, and the last line is sampled: RUNS runs, not complete; --architecture,
 --show, --first or --seconds don't go with it. With --until such runs are looked through for a message, and the
@@ -197,7 +198,7 @@ this program's own data.
 Example: rvtl fences --harts 2 examples/mcs_lock.elf";
 
 pub(crate) const SHOW_HELP: &str =
-    "show the word of memory at this address (decimal, or hexadecimal behind 0x) or symbol in each outcome, which then ends only once no store waits; may be given again";
+    "show the word of memory at this address (decimal, or hexadecimal behind 0x) or symbol, or so many bytes behind one (counter+4), in each outcome, which then ends only once no store waits; may be given again";
 
 pub(crate) const SCRIPTS_HELP: &str =
     "the folder, which has to exist, to write outcome-1.script .., failure-1.script .. and stuck.script into, each for replay; and outcome-1.trace .., each for check, of outcomes that this machine wasn't found to show. Other files there stay, also those of an earlier search";
@@ -209,7 +210,7 @@ pub(crate) const ALLOW_HELP: &str =
     "the file with the allowed outcomes, a line each as printed, with or without its number, and with a * for any number in it; where another is found it is told and the status is 3";
 
 pub(crate) const FAIL_ON_HELP: &str =
-    "what the search may not come to, with a comma between each two: failure (a hart stopped, whatever the others do then; with --architecture or --sample only in an outcome), stuck (from some state no schedule ends), incomplete (not all was searched); where it comes to one it is told and the status is 3";
+    "what the search may not come to, with a comma between each two: failure (a hart stopped, whatever the others do then; with --sample only in an outcome), stuck (from some state no schedule ends), incomplete (not all was searched); where it comes to one it is told and the status is 3";
 
 pub(crate) const UNTIL_HELP: &str =
     "make random runs, 1000 or as many as --sample says, and print the shortest script found that sends this message: its name and hart and an address in its line, as in a trace, and * for any of them, as 'ReleaseData 0 *'; where none of the runs sends it the status is 3";

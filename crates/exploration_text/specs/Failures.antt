@@ -34,6 +34,10 @@ cause_text code =
 abbrev pub stop_text : List Named → Stop → List ℕ
 stop_text symbols stop = codes "stop " ++ (decimal stop.code ++ (codes " at " ++ (address_text symbols stop.pc ++ cause_text stop.code)))
 
+-- the hart that stopped, and where and why
+abbrev pub stopped_text : List Named → (hart : ℕ) → Stop → List ℕ
+stopped_text symbols hart stop = hart_name hart ++ stop_text symbols stop
+
 -- how a hart stands, and where, unless it exited
 abbrev pub place_by : List Named → Status → (pc : ℕ) → List ℕ
 place_by symbols Running pc = codes "run at " ++ address_text symbols pc

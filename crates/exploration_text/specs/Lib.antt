@@ -14,3 +14,5 @@ pub use Rattle.explorer.specs.declared.exploration.Exploration
 pub use Rattle.explorer.specs.declared.found.Found
 pub use Rattle.explorer.specs.declared.found.Realisation
 pub use Rattle.explorer.specs.declared.found.Realisation.TheVariants as RealisationVariants
+pub use Rattle.explorer.specs.Failures as ExplorerFailures
+pub use Rattle.explorer.specs.declared.found.FoundFailure

@@ -1,5 +1,5 @@
 //! The lines of failures.
-ghost use Rattle.std.specs.Prelude.{◌≡◌, ◌++◌, OnOk};
+ghost use Rattle.std.specs.Prelude.{◌≡◌, ◌++◌, IfOk, OnOk};
 ghost use Rattle.elf_symbols.specs.Lookups.{nearest};
 ghost use Rattle.exploration_text.specs.Failures as text;
 ghost use Rattle.order_text.specs.Naming.{place_behind};
@@ -11,7 +11,7 @@ use explorer::flat_exploration::Stop;
 use hart::{Hart, Status};
 use order_text::spell_place;
 use rv32_exec::stop;
-use std::alloc::AllocError;
+use std::alloc::{AllocError, Global};
 use text_fields::{Page, word_text};
 
 fn spell_name(into: &mut Vec<u8>, hart: u8) -> Result<(), AllocError>
@@ -154,8 +154,23 @@ pub(crate) fn spell_failures(
     Ok(())
 }
 
-/// How many there are, where there are any.
-pub(crate) fn spell_count(into: &mut Vec<u8>, failures: usize) -> Result<(), AllocError>
+/// A hart that stops, and where and why it does, as the line of a failure has it behind the number.
+pub fn stopped_text(
+    alloc: Global,
+    symbols: &Symbols,
+    hart: u8,
+    stop: Stop,
+) -> Result<Vec<u8>, AllocError>
+    ensures { IfOk result (λ bytes. bytes.items ≡ text.stopped_text symbols.now hart stop) }
+{
+    let mut bytes = Vec::new(alloc);
+    spell_name(&mut bytes, hart)?;
+    spell_stop(&mut bytes, symbols, stop)?;
+    Ok(bytes)
+}
+
+/// Adds how many failures there are, where there are any, as the last line has it before its states.
+pub fn spell_failure_count(into: &mut Vec<u8>, failures: usize) -> Result<(), AllocError>
     ensures { OnOk result (into.new.items ≡ into.old.items ++ text.failures_part failures) }
 {
     if failures > 0 {

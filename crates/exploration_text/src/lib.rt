@@ -7,6 +7,7 @@ mod spelling;
 mod wording;
 
 pub use explorer;
+pub use failures::{spell_failure_count, stopped_text};
 pub use order_text;
 pub use sampling::sampled_text;
 pub use spelling::harts_text;

@@ -4,7 +4,7 @@ ghost use Rattle.exploration_text.specs.Text as text;
 ghost use Rattle.explorer.specs.Ranks.{result_of};
 ghost use Rattle.explorer.specs.Shown.{told};
 
-use crate::failures::spell_count;
+use crate::failures::spell_failure_count;
 use explorer::Stuck;
 use explorer::flat_model::HartResult;
 use hart_ends::put_end;
@@ -89,7 +89,7 @@ pub(crate) fn spell_extent(
             into.extend_from_slice(b"complete: ")?;
             spell_number(into, outcomes as u64)?;
             into.extend_from_slice(b" outcomes, ")?;
-            spell_count(into, failures)?;
+            spell_failure_count(into, failures)?;
             spell_number(into, states as u64)?;
             into.extend_from_slice(b" states\n")?;
         }

@@ -8,7 +8,7 @@ use Rattle.command_files.specs.declared.fault.Unshown.{Unshown}
 use Rattle.command_settings.specs.declared.wanted.Explore.{Explore}
 use Rattle.elf_loader.specs.Image.{Initial}
 use Rattle.elf_symbols.specs.Named.{Named}
-use Rattle.script_commands.specs.Named.{HoldsNamedImage}
+use Rattle.command_files.specs.Named.{HoldsNamedImage}
 use Rattle.explore_command.proofs.Faults.{first_left, first_told}
 use Rattle.explore_command.specs.Exploring.{IsExploreFault, IsFirstFault, LeavesPart}
 use Rattle.explore_command.specs.Asking.{HasProgram, HasProgramBy, HasUnshown, IsAskingFault}

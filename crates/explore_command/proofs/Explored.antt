@@ -20,7 +20,7 @@ use Rattle.command_files.specs.declared.allowing.Judgement.TheVariants.{Allowed}
 use Rattle.explorer.specs.Ends.{outcome_of}
 use Rattle.explorer.specs.declared.exploration.Exploration.{Exploration}
 use Rattle.machine_types.specs.declared.config.Config.{Config}
-use Rattle.script_commands.specs.Named.{HoldsNamedImage}
+use Rattle.command_files.specs.Named.{HoldsNamedImage}
 use Rattle.state_search.specs.declared.findings.Extent.TheVariants as extent
 pub use Rattle.search_files.proofs.Files.{all_of, spared, spared_after}
 use Rattle.text_fields.specs.Writing.{Begins}

@@ -26,7 +26,7 @@ use Rattle.machine_types.specs.declared.config.Config.{Config}
 use Rattle.explore_command.specs.Asking.{HasProgramBy, HasUnshown}
 use Rattle.explore_command.specs.Showing.{AreWordsShown, IsFirstOf, IsOfFile, IsShowFault, WordRefusals, WordsHave}
 use Rattle.search_files.specs.Targets.{AreAddressesOf, names_of}
-use Rattle.script_commands.specs.Named.{HoldsNamedImage}
+use Rattle.command_files.specs.Named.{HoldsNamedImage}
 use Rattle.state_search.specs.declared.findings.Extent.TheVariants as extent
 use Rattle.explorer.specs.Ends.{outcome_of}
 

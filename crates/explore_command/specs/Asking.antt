@@ -6,7 +6,7 @@ use Rattle.command_files.specs.declared.fault.Fault.{Fault}
 use Rattle.command_settings.specs.declared.wanted.Explore.{Explore}
 use Rattle.elf_loader.specs.Image.{Initial}
 use Rattle.elf_symbols.specs.Named.{Named}
-use Rattle.script_commands.specs.Named.{HoldsNamedImage}
+use Rattle.command_files.specs.Named.{HoldsNamedImage}
 use Rattle.explore_command.specs.Exploring.{IsFirstFault}
 use Rattle.explore_command.specs.Targets.{AreAddressesOf, ComesBehindShown, IsUnplaced}
 use Rattle.explorer.specs.Words.{CanShowEach}

@@ -1,11 +1,12 @@
 -- What a search under a memory model has told, written and judged.
-use Rattle.std.specs.Prelude.{◌≡◌, ◌≢◌, ◌<◌, ◌≤◌, ◌⊎◌, ℕ, All, Bool, IfSome, List, Option, false, map, min, not, true}
+use Rattle.std.specs.Prelude.{◌≡◌, ◌≢◌, ◌<◌, ◌≤◌, ◌⊎◌, ◌==◌, ◌||◌, ℕ, All, Bool, IfSome, List, Option, false, length, map, min, not, true}
 use Rattle.std.specs.Io.KnownBytes.{Appends}
 use Rattle.std.specs.List.Sorted.{IsStrictlySortedBy}
 use Rattle.std.specs.Ordering.{on}
-use Rattle.explore_command.specs.ModelKeeping.{AreWaysKept, IsWayFile}
+use Rattle.explore_command.specs.ModelKeeping.{AreKeptOf, IsFileOf}
 use Rattle.explore_command.specs.Telling.{AreRemarked}
 use Rattle.architecture_outcomes.specs.declared.architecture.Architecture.{Architecture}
+use Rattle.architecture_outcomes.specs.Failings.{IsDecidedStop, IsShown, TellsEachStop, failures_in}
 use Rattle.architecture_outcomes.specs.Outcomes.{IsDecided, IsWitnessed, TellsEachEnd, end_of, ends_of}
 use Rattle.architecture_outcomes.specs.Text.{architecture_text}
 use Rattle.architecture_outcomes.specs.Visited.{AreMachineStates, TellsEnd}
@@ -29,8 +30,9 @@ use Rattle.state_search.specs.declared.findings.Extent.{Extent}
 use Rattle.state_search.specs.declared.findings.Extent.TheVariants.{Complete, LimitMet}
 use Rattle.state_search.specs.declared.findings.Extent.TheVariants as extent
 use Rattle.architecture_outcomes.specs.Complete.{TellsEachAllowed}
+use Rattle.architecture_outcomes.specs.FailingRuns.{TellsEachFailing}
 use Rattle.architecture_outcomes.specs.Met.{HasMet}
-use Rattle.architecture_outcomes.specs.Openings.{NeverOpens}
+use Rattle.architecture_outcomes.specs.Stops.{AreOnce}
 use Rattle.architecture_outcomes.specs.LeftOut.{keeps_limit}
 use Rattle.architecture_outcomes.specs.Reach.{Reach}
 use Rattle.architecture_outcomes.specs.TheVariants as reach
@@ -38,14 +40,19 @@ use Rattle.state_search.specs.declared.until.Ending.TheVariants.{First, Time}
 use Rattle.explorer.specs.Ranks.{outcome_cmp}
 
 -- what is said to show an outcome does; where the machine's own search is complete, each of its outcomes is told as one of the machine, and each other as the model's alone;
--- where the search under the model left nothing out, each outcome that the model allows is told; that search finds no state only where a hart never comes from reset to an access or its end, or says that it left out more; the machine's search finds no more states than the limit, and says where it met it; the model's finds no more, unless it says that it met the limit, and then it did, or was ended, or that memory ended; each other bound that it says it met was met, and there;
+-- where the search under the model left nothing out, each outcome that the model allows is told, and each hart that stops in a run that it allows, whatever the others do then; what is said to show such a hart does, none is told twice, and where the machine's own search is complete, each that it stops is told as one of the machine, and each other as the model's alone; that search finds no state only where it says that it left out more; the machine's search finds no more states than the limit, and says where it met it; the model's finds no more, unless it says that it met the limit, and then it did, or was ended, or that memory ended; each other bound that it says it met was met, and there;
 -- the outcomes stand in their order, each once; unless memory ended the machine's search, each end among its states is told as the machine's; the window told is the one asked for, 64 where that is more
 pub record IsFoundUnder (image : Initial) (config : Config) (addresses : List ℕ) (window limit : ℕ) (found : Architecture) : Type 0 where
   pub shown : All (IsWitnessed image config addresses) found.outcomes.items
   pub machine : found.machine ≡ Complete → TellsEachEnd image config addresses found.outcomes.items
   pub alone : found.machine ≡ Complete → All (λ o. IsDecided o.way) found.outcomes.items
   pub allowed : found.reach ≡ reach.Whole → TellsEachAllowed image config addresses (ends_of found.outcomes.items)
-  pub opens : found.reach ≡ reach.Whole → found.states ≡ 0 → NeverOpens image config
+  pub failing : found.reach ≡ reach.Whole → TellsEachFailing image config (failures_in found.failures.items)
+  pub stopped : All (IsShown image config addresses) found.failures.items
+  pub stopped_once : AreOnce (failures_in found.failures.items)
+  pub stopped_machine : found.machine ≡ Complete → TellsEachStop image config found.failures.items
+  pub stopped_alone : found.machine ≡ Complete → All IsDecidedStop found.failures.items
+  pub opens : found.reach ≡ reach.Whole → 0 < found.states
   pub bounded : keeps_limit found.reach ≡ true → found.states ≤ limit
   pub limited : found.reach ≡ reach.LimitMet → limit < found.states
   pub met : HasMet image found.window found.reach
@@ -61,9 +68,13 @@ abbrev pub is_whole : Reach → Extent → Bool
 is_whole reach.Whole e = is_complete e
 is_whole _ e = false
 
+-- it tells a hart that stops, whatever the other harts do then
+abbrev pub tells_stops : Architecture → Bool
+tells_stops found = not (length found.failures.items == 0)
+
 -- what else it came to that it may not; it doesn't look for states from which no schedule ends
 abbrev pub search_fails : Option Name → Architecture → List ℕ
-search_fails list found = fail_lines list (have_failure (map (λ o. (end_of o).results) found.outcomes.items)) false (not (is_whole found.reach found.machine))
+search_fails list found = fail_lines list (tells_stops found || have_failure (map (λ o. (end_of o).results) found.outcomes.items)) false (not (is_whole found.reach found.machine))
 
 -- it was found of the image in the file, with the words where its symbols say
 pub record IsOfFile (held : Contents) (wanted : Explore) (words : List Name) (window : ℕ) (architecture : Architecture) : Type 0 where
@@ -73,16 +84,16 @@ pub record IsOfFile (held : Contents) (wanted : Explore) (words : List Name) (wi
   pub inside : IsInside wanted.machine
   pub found : IsFoundUnder image (config_named wanted.machine inside) addresses window wanted.states architecture
 
--- what was found was printed, what shows it is in the folder, if one was named, and each other file is as before, and it was judged by the file that says what is allowed; it ended at the first only where that was asked for, and at no time; it is allowed only where memory sufficed for both searches
+-- what was found was printed, what shows it is in the folder, if one was named, and each other file is as before, and it was judged by the file that says what is allowed; it ended at the first only where that was asked for, and by the clock only where it was given seconds; it is allowed only where memory sufficed for both searches
 pub record IsSearched (held left : Contents) (wanted : Explore) (words : List Name) (window : ℕ) (judgement : Judgement) (old new : Option (List ℕ)) : Type 0 where
   pub architecture : Architecture
   pub of_file : IsOfFile held wanted words window architecture
-  pub printed : Appends old new (architecture_text (names_of words) architecture)
+  pub printed : Appends old new (architecture_text (names_of words) of_file.program.symbols architecture)
   pub named : HasName wanted.scripts
-  pub kept : IfSome wanted.scripts (λ folder. AreWaysKept left (config_named wanted.machine of_file.inside) wanted.machine.memory folder.now 1 architecture.outcomes.items)
+  pub kept : IfSome wanted.scripts (λ folder. AreKeptOf architecture left (config_named wanted.machine of_file.inside) wanted.machine.memory folder.now)
   pub first : architecture.reach ≡ reach.Ended First → wanted.first ≡ true
   pub timed : architecture.reach ≡ reach.Ended Time → 0 < wanted.seconds
-  pub spared : SparesOthers (IsInNamed wanted.scripts (IsWayFile 1 architecture.outcomes.items)) held left
+  pub spared : SparesOthers (IsInNamed wanted.scripts (IsFileOf architecture)) held left
   pub judged : IsJudged held wanted.allow (map (λ o. end_text (names_of words) (end_of o)) architecture.outcomes.items) (search_fails wanted.fail_on architecture) judgement
   pub whole : judgement ≡ Allowed → (architecture.machine ≢ extent.OutOfMemory) × (architecture.reach ≢ reach.OutOfMemory)
 
@@ -90,13 +101,13 @@ pub record IsSearched (held left : Contents) (wanted : Explore) (words : List Na
 pub record SearchHas (held : Contents) (wanted : Explore) (words : List Name) (window : ℕ) (P : List ℕ → Type 0) : Type 0 where
   pub architecture : Architecture
   pub of_file : IsOfFile held wanted words window architecture
-  pub of_text : P (architecture_text (names_of words) architecture)
+  pub of_text : P (architecture_text (names_of words) of_file.program.symbols architecture)
 
 -- standard error was told of the traces that show the outcomes that were printed, and then of the outcomes that aren't allowed
 pub record IsSearchNoted (held : Contents) (wanted : Explore) (words : List Name) (window : ℕ) (judgement : Judgement) (old new before after : Option (List ℕ)) : Type 0 where
   pub architecture : Architecture
   pub of_file : IsOfFile held wanted words window architecture
-  pub printed : Appends old new (architecture_text (names_of words) architecture)
+  pub printed : Appends old new (architecture_text (names_of words) of_file.program.symbols architecture)
   pub between : Option (List ℕ)
   pub remarked : AreRemarked wanted.scripts architecture.outcomes.items before between
   pub refusals : HaveRefusals held wanted.allow (map (λ o. end_text (names_of words) (end_of o)) architecture.outcomes.items) (search_fails wanted.fail_on architecture) (IsToldBy judgement between after)

@@ -31,9 +31,9 @@ IsRefusedBy (Some allowed) line = allows_line allowed (without_number line) ≡ 
 abbrev pub IsSoughtBy : (is_asked : Bool) → List WordName → Option Allowed → Outcome → Type 0
 IsSoughtBy is_asked names allowed o = (is_asked ≡ true) × ((has_stopped o.results ≡ true) ⊎ IsRefusedBy allowed (end_text names o))
 
--- a search under a memory model ended at the first only where that was asked for, and it tells an outcome in which a hart has stopped, or that the text doesn't allow, where the words are called so; and by the clock only where it was given seconds
+-- a search under a memory model ended at the first only where that was asked for, and it tells a hart that stops, or an outcome in which one has, or that the text doesn't allow, where the words are called so; and by the clock only where it was given seconds
 pub record EndsUnder (is_asked : Bool) (seconds : ℕ) (names : List WordName) (text : Option (List ℕ)) (found : Architecture) : Type 0 where
-  pub first : found.reach ≡ reach.Ended First → (is_asked ≡ true) × ((o : Outcome) × Contains (ends_of found.outcomes.items) o × ((has_stopped o.results ≡ true) ⊎ IsRefused text (end_text names o)))
+  pub first : found.reach ≡ reach.Ended First → (is_asked ≡ true) × ((0 < length found.failures.items) ⊎ ((o : Outcome) × Contains (ends_of found.outcomes.items) o × ((has_stopped o.results ≡ true) ⊎ IsRefused text (end_text names o))))
   pub timed : found.reach ≡ reach.Ended Time → 0 < seconds
 
 -- it ended at the first only where that was asked for, and it tells a hart that stops, or an outcome that the text doesn't allow, where the words are called so; and by the clock only where it was given seconds

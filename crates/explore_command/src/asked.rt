@@ -7,15 +7,14 @@ ghost use Rattle.command_files.specs.Sizes.{IsInside, IsOutside, config_named};
 ghost use Rattle.elf_loader.specs.Size.{IsMemoryKib};
 ghost use Rattle.explore_command.specs.Exploring.{IsFirstFault};
 ghost use Rattle.explore_command.specs.Keeping.{HasName};
-ghost use Rattle.script_commands.specs.Named.{HoldsNamedImage};
+ghost use Rattle.command_files.specs.Named.{HoldsNamedImage};
 
 use crate::keeping::check_folder;
-use command_files::{Fault, Files, allow_file, named_config, out_of_limits};
+use command_files::{Fault, Files, allow_file, named_config, named_image_in, out_of_limits};
 use command_settings::Explore;
 use elf_loader::Image;
 use elf_symbols::Symbols;
 use machine_types::Config;
-use script_commands::named_image_in;
 use std::alloc::Global;
 
 /// The machine and the program that a search is asked of.

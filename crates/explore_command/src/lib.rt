@@ -18,7 +18,7 @@ mod until;
 
 pub use architecture::architecture_files;
 pub use exploring::explore_files;
-pub use laws::passing_is_safe;
+pub use laws::{passing_is_safe, search_passing_is_safe};
 pub use sample::sample_files;
 pub use show::show_files;
 pub use until::until_files;

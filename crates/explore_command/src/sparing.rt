@@ -49,10 +49,10 @@ fn spare_outcome<'a, F: Files>(
         return Err(Fault::OutOfMemory);
     };
     spare_path(folder, files, &script, wanted)?;
-    spare_trace(folder, files, number, wanted)
+    spare_trace(folder, files, "outcome", number, wanted)
 }
 
-/// Refuses the folder where the script of this failure would be written over what is read.
+/// Refuses the folder where the script or the trace of this failure would be written over what is read.
 fn spare_failure<'a, F: Files>(
     folder: Folder<'a>,
     files: &mut F,
@@ -66,14 +66,16 @@ fn spare_failure<'a, F: Files>(
     let Ok(script) = failure_path(folder, number) else {
         return Err(Fault::OutOfMemory);
     };
-    spare_path(folder, files, &script, wanted)
+    spare_path(folder, files, &script, wanted)?;
+    spare_trace(folder, files, "failure", number, wanted)
 }
 
-/// Refuses the folder where the trace of this outcome would be written over what is read: without `--architecture` there
-/// are none.
+/// Refuses the folder where the trace of this outcome or failure would be written over what is read: without
+/// `--architecture` there are none.
 fn spare_trace<'a, F: Files>(
     folder: Folder<'a>,
     files: &mut F,
+    kind: &str,
     number: usize,
     wanted: Explore<'_>,
 ) -> Result<(), Fault<'a>>
@@ -84,7 +86,7 @@ fn spare_trace<'a, F: Files>(
         return Ok(());
     }
     let name = folder.name;
-    let Ok(trace) = format!(in folder.alloc; "{name}/outcome-{number}.trace") else {
+    let Ok(trace) = format!(in folder.alloc; "{name}/{kind}-{number}.trace") else {
         return Err(Fault::OutOfMemory);
     };
     spare_path(folder, files, &trace, wanted)

@@ -64,6 +64,7 @@ pub(crate) fn search_machine<W: Watch>(
     )?;
     Ok(Architecture {
         outcomes: of_machine(alloc, outcomes)?,
+        failures: Vec::new(alloc),
         model: config.model,
         window: window.min(WIDEST),
         reach: Reach::Whole,

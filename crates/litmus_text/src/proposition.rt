@@ -1,5 +1,5 @@
 //! Propositions.
-ghost use Rattle.std.specs.Prelude.{◌≡◌, Ok, [], ◌∷◌};
+ghost use Rattle.std.specs.Prelude.{◌≡◌, Ok, [], ◌∷◌, replicate};
 ghost use Rattle.litmus_text.specs.Propositions as propositions;
 ghost use Rattle.litmus_parts.specs.Stops.{seen, Adds};
 
@@ -10,8 +10,11 @@ use text_words::symbol_at;
 /// No more operands stand in a row with one operator between.
 const MOST_OPERANDS: u32 = 1000;
 
-/// Negations, parentheses and arrows nest no deeper.
+/// Negations and parentheses nest no deeper.
 const MOST_LEVELS: u32 = 64;
+
+/// No more arrows stand in a row: each takes all that stands behind it.
+const MOST_ARROWS: u32 = 64;
 
 /// What stands behind its operands.
 #[derive(Clone, Copy)]
@@ -97,7 +100,7 @@ fn grouped_at<'a>(
 ) -> Result<&'a [u8], Stop>
     ensures { Adds (λ x. x.now) steps.old.items steps.new.items result (propositions.closed (propositions.proposition_of 64 (propositions.operand_at depth harts) bytes.now)) }
 {
-    match proposition_of(MOST_LEVELS, depth, harts, bytes, steps) {
+    match proposition_of(depth, harts, bytes, steps) {
         Ok(rest) => expect(b")", Cause::Close, rest),
         Err(stop) => Err(stop),
     }
@@ -214,44 +217,40 @@ fn disjunction_at<'a>(
     }
 }
 
-/// Adds what stands behind an arrow, if one stands here, and then the arrow.
-#[cycle(nesting)]
-fn implied_at<'a>(
-    arrows: u32,
-    depth: u32,
-    harts: u8,
-    bytes: &'a [u8],
-    steps: &mut Vec<Step>,
-) -> Result<&'a [u8], Stop>
-    ensures { Adds (λ x. x.now) steps.old.items steps.new.items result (propositions.then_step Step.Implies (propositions.proposition_of arrows (propositions.operand_at depth harts) bytes.now)) }
-{
-    match proposition_of(arrows, depth, harts, bytes, steps) {
-        Ok(rest) => put(Operator::Implies, rest, steps),
-        Err(stop) => Err(stop),
-    }
-}
-
-/// Adds a proposition with fewer arrows than that in a row.
+/// Adds a proposition: operands with arrows between, and then the arrows.
 #[cycle(nesting)]
 fn proposition_of<'a>(
-    arrows: u32,
     depth: u32,
     harts: u8,
     bytes: &'a [u8],
     steps: &mut Vec<Step>,
 ) -> Result<&'a [u8], Stop>
-    ensures { Adds (λ x. x.now) steps.old.items steps.new.items result (propositions.proposition_of arrows (propositions.operand_at depth harts) bytes.now) }
+    ensures { Adds (λ x. x.now) steps.old.items steps.new.items result (propositions.proposition_of 64 (propositions.operand_at depth harts) bytes.now) }
 {
-    if arrows == 0 {
-        return Err(Stop::at(Cause::Shallow, bytes));
+    let mut rest = bytes;
+    'arrows: for taken in 0..MOST_ARROWS {
+        match disjunction_at(depth, harts, rest, steps) {
+            Ok(behind) => match symbol_at(b"=>", behind) {
+                Some(later) => rest = later,
+                None => return put_arrows(taken, behind, steps),
+            },
+            Err(stop) => return Err(stop),
+        }
     }
-    match disjunction_at(depth, harts, bytes, steps) {
-        Ok(rest) => match symbol_at(b"=>", rest) {
-            Some(later) => implied_at(arrows - 1, depth, harts, later, steps),
-            None => Ok(rest),
-        },
-        Err(stop) => Err(stop),
+    Err(Stop::at(Cause::Shallow, rest))
+}
+
+/// Adds so many arrows.
+fn put_arrows<'a>(count: u32, rest: &'a [u8], steps: &mut Vec<Step>) -> Result<&'a [u8], Stop>
+    ensures { Adds (λ x. x.now) steps.old.items steps.new.items result (Ok (replicate count Step.Implies, rest.entry.now)) }
+{
+    for placed in 0..count {
+        match put(Operator::Implies, rest, steps) {
+            Ok(_same) => {}
+            Err(stop) => return Err(stop),
+        }
     }
+    Ok(rest)
 }
 
 /// Adds a proposition about so many harts, and answers what stands behind it.
@@ -263,5 +262,5 @@ pub(crate) fn proposition_at<'a>(
 ) -> Result<&'a [u8], Stop>
     ensures { Adds (λ x. x.now) steps.old.items steps.new.items result (propositions.proposition_at harts bytes.now) }
 {
-    proposition_of(MOST_LEVELS, MOST_LEVELS, harts, bytes, steps)
+    proposition_of(MOST_LEVELS, harts, bytes, steps)
 }

@@ -4,7 +4,7 @@ use Rattle.std.proofs.lemmas.List.{append-nil}
 use Rattle.command_files.specs.Ends.{ends_of, hart_lines}
 use Rattle.command_files.specs.declared.allowing.Judgement.{Judgement}
 use Rattle.hart.specs.declared.status.Status.{Status}
-use Rattle.machine_traces.specs.Views.{Node, State}
+use Rattle.machine_model.specs.Views.{Node, State}
 use Rattle.run_command.specs.Running.{judgement_line}
 use Rattle.text_fields.specs.Writing.{Begins, Writes}
 use Rattle.trace_recorder.specs.History.{History}

@@ -18,22 +18,20 @@ ghost use Rattle.trace_text.specs.Traces.{text as trace_text};
 
 use crate::limits::LimitNote;
 use command_files::{
-    Fault, Files, Judgement, check_writable, named_config, out_of_limits, print_ends, remark,
-    script_of, unmade,
+    Fault, Files, Judgement, NamedImage, check_writable, every_trace_has_a_text, named_config,
+    named_image_in, out_of_limits, print_ends, remark, script_of, unmade,
 };
 use command_settings::Run;
 use elf_symbols::Symbols;
 use hart::Status;
 use host_threads::{Gate, Report, RunError, run};
-use machine_traces::every_trace_has_a_text;
 use progress_line::{Progress, Stage};
-use script_commands::stop_text::StopNote;
-use script_commands::{NamedImage, named_image_in};
 use std::alloc::Global;
 use std::io::{self, Write};
 use std::sync::Wait;
 use std::sync::atomic::{AtomicU64, Ordering};
 use std::thread::Threads;
+use stop_text::StopNote;
 use text_fields::put;
 use trace_recorder::Trace;
 use trace_text::{Script, write_script, write_trace};

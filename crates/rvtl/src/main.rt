@@ -2,16 +2,17 @@
 #![tactic(auto)]
 
 mod delivering;
+mod exit_code;
 mod memory;
 mod streams;
 mod words;
 
 use crate::delivering::run_whole;
+use crate::exit_code::code_of;
 use crate::memory::most_taken;
 use crate::streams::{Messages, Output};
 use crate::words::told;
 use command_files::{Remarked, SystemFiles, WithInput};
-use exit_codes::code_of;
 use notes::FileNote;
 use progress_line::ProgressLine;
 use std::cell::Cell;
@@ -26,6 +27,9 @@ use std::time::Clock;
 /// How many bytes of stack the program has, whatever the system gives the process.
 const STACK: usize = 8 << 20;
 
+/// How many it has where these aren't to be had: more than twice what any command takes.
+const SMALL_STACK: usize = 1 << 20;
+
 /// The status where memory ended.
 const OUT_OF_MEMORY: u8 = 4;
 
@@ -36,7 +40,12 @@ fn main(rt: HostRuntime) -> ExitCode {
         rt,
         |scope| -> io::Result<io::Result<u8>> {
             let own = Builder::new().stack_size(STACK);
-            let program = own.spawn_scoped(scope, move || run(rt, rt.stdout(), rt.stderr()))?;
+            let program = match own.spawn_scoped(scope, move || run(rt, rt.stdout(), rt.stderr())) {
+                Ok(program) => program,
+                Err(_) => Builder::new()
+                    .stack_size(SMALL_STACK)
+                    .spawn_scoped(scope, move || run(rt, rt.stdout(), rt.stderr()))?,
+            };
             Ok(program.join(rt))
         },
     );
@@ -44,7 +53,7 @@ fn main(rt: HostRuntime) -> ExitCode {
         let _ = eprintln!(rt; "rvtl: out of memory");
         let _ = eprintln!(rt;
             "note: no thread with a stack of {} KiB was to be had",
-            STACK / 1024
+            SMALL_STACK / 1024
         );
         return ExitCode::from(OUT_OF_MEMORY);
     };

@@ -21,7 +21,7 @@ use Rattle.trace_text.specs.declared.script.Script.{Script}
 use Rattle.command_files.specs.Sizes.{config_of}
 use Rattle.command_files.specs.Files.{HoldsScript}
 use Rattle.elf_symbols.specs.Named.{Named}
-use Rattle.script_commands.specs.Named.{HoldsNamedImage}
+use Rattle.command_files.specs.Named.{HoldsNamedImage}
 use Rattle.command_files.specs.Contents.{Contents}
 use Rattle.script_commands.specs.Explaining.{IsExplainFault, IsPartOfStream, IsWholeExplanation, LeavesOfStream, explanation, state_behind, state_if}
 use Rattle.command_files.specs.Faults.{Name}

@@ -1,5 +1,5 @@
 -- What drawing a script has done, and which faults it tells.
-use Rattle.script_commands.specs.Addresses.{address}
+use Rattle.command_files.specs.Addresses.{address}
 use Rattle.run_chart.specs.declared.sheet.TheConstants.{STYLE}
 use Rattle.event_stream.specs.TheVariants as refusals
 use Rattle.command_files.specs.Faults.{IsReplayFault, Name}

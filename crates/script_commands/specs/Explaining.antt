@@ -9,7 +9,7 @@ use Rattle.command_files.specs.declared.fault.Fault.{Fault}
 use Rattle.command_settings.specs.declared.wanted.Replay.{Replay}
 use Rattle.elf_loader.specs.Image.{Initial}
 use Rattle.elf_symbols.specs.Named.{Named}
-use Rattle.script_commands.specs.Named.{HoldsNamedImage}
+use Rattle.command_files.specs.Named.{HoldsNamedImage}
 use Rattle.event_stream.specs.Reports.{StreamEnding, ending}
 use Rattle.event_stream.specs.Reports.StreamEnding.{Reached, Idle}
 use Rattle.event_stream.specs.States.{state_lines}

@@ -1,7 +1,5 @@
 //! `rvtl explain`, over files and streams that the caller hands in.
 
 mod explaining;
-mod named;
 
 pub use explaining::explain_script;
-pub use named::{NamedImage, named_image_in};

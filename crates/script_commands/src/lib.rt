@@ -7,8 +7,7 @@ mod idle;
 mod replay;
 mod waving;
 
-pub use chart::{address_in, chart_files};
-pub use explain::{NamedImage, explain_script, named_image_in};
+pub use chart::chart_files;
+pub use explain::explain_script;
 pub use replay::{CompositionError, replay_and_write, replay_files};
-pub use stop_text;
 pub use waving::wave_files;

@@ -2,4 +2,4 @@ pub mod Faults
 pub mod Folders
 pub mod Targets
 pub use Rattle.exploration_text.specs.declared.wording.WordName
-pub use Rattle.script_commands.specs.Named
+pub use Rattle.command_files.specs.Named

@@ -1,6 +1,6 @@
 -- The words of memory that are to be shown: what they are called, and where they lie.
-use Rattle.std.specs.Prelude.{ℕ, ◌≡◌, ◌⊎◌, ◌∷◌, ◌++◌, All, List, None, Option, Some, map}
-use Rattle.script_commands.specs.Addresses.{address}
+use Rattle.std.specs.Prelude.{ℕ, ◌≡◌, ◌⊎◌, ◌∷◌, ◌++◌, ◌+◌, ◌^◌, ◌==◌, All, Bool, List, None, Option, Some, drop, if◌then◌else◌, map, nat_lt, position, take}
+use Rattle.command_files.specs.Addresses.{address}
 use Rattle.command_files.specs.Faults.{Name}
 use Rattle.command_files.specs.declared.fault.Fault.{Fault}
 use Rattle.command_files.specs.declared.fault.Fault.TheVariants.{CannotShow, OutOfMemory}
@@ -23,9 +23,41 @@ name_of word = name_by word (address word.now)
 abbrev pub names_of : List Name → List WordName
 names_of = map name_of
 
+abbrev pub is_plus : ℕ → Bool
+is_plus byte = byte == 43
+
+-- so many bytes behind a place, if that is an address
+abbrev pub beyond : ℕ → ℕ → Option ℕ
+beyond start offset = if nat_lt (start + offset) (2 ^ 32) then Some (start + offset) else None
+
+abbrev pub beyond_both : Option ℕ → Option ℕ → Option ℕ
+beyond_both (Some start) (Some offset) = beyond start offset
+beyond_both (Some start) None = None
+beyond_both None offset = None
+
+-- so many bytes behind a symbol
+abbrev pub place_behind : List Named → (symbol offset : List ℕ) → Option ℕ
+place_behind symbols symbol offset = beyond_both (address_of symbols symbol) (address offset)
+
+-- by what stands before and behind a `+` of the name, if it has one
+abbrev pub place_split : List Named → List ℕ → Option ℕ → Option ℕ
+place_split symbols name None = None
+place_split symbols name (Some at) = place_behind symbols (take at name) (drop (at + 1) name)
+
+abbrev pub offset_place : List Named → List ℕ → Option ℕ
+offset_place symbols name = place_split symbols name (position is_plus name)
+
+-- where a symbol lies, or a word behind one, as `counter+4`: the whole name comes first, as a symbol's own may have a `+`
+abbrev pub symbol_place_by : Option ℕ → Option ℕ → Option ℕ
+symbol_place_by (Some place) other = Some place
+symbol_place_by None other = other
+
+abbrev pub symbol_place : List Named → List ℕ → Option ℕ
+symbol_place symbols name = symbol_place_by (address_of symbols name) (offset_place symbols name)
+
 -- where a word lies, by the symbols of the image's file
 abbrev pub place_of : List Named → WordName → Option ℕ
-place_of symbols (Symbol name) = address_of symbols name.now
+place_of symbols (Symbol name) = symbol_place symbols name.now
 place_of symbols (Address place) = Some place
 
 -- the words lie at these addresses

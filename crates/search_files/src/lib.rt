@@ -7,5 +7,4 @@ mod targets;
 
 pub use exploration_text;
 pub use folder::Folder;
-pub use script_commands;
 pub use targets::{Targets, targets_of};

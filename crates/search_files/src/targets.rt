@@ -1,15 +1,14 @@
 //! The words of memory that are to be shown: what they are called, and where they lie.
 
-ghost use Rattle.std.specs.Prelude.{◌≡◌, ◌++◌, IfErr, IfOk, OnOk, Some, map};
-ghost use Rattle.search_files.specs.Targets.{AreAddressesOf, IsUnplaced, IsUnshown, name_of, names_of, place_of};
+ghost use Rattle.std.specs.Prelude.{◌≡◌, ◌<◌, ◌++◌, IfErr, IfOk, IfSome, OnOk, Some, length, map, position};
+ghost use Rattle.search_files.specs.Targets.{AreAddressesOf, IsUnplaced, IsUnshown, beyond, is_plus, name_of, names_of, offset_place, place_behind, place_of, symbol_place};
 ghost use Rattle.performed_words.specs.Words.{CanShow, CanShowEach};
 
-use command_files::{Fault, Unshown};
+use command_files::{Fault, Unshown, address_in};
 use elf_loader::Image;
 use elf_symbols::Symbols;
 use exploration_text::WordName;
 use performed_words::can_show;
-use script_commands::address_in;
 use std::alloc::{AllocError, Global};
 
 /// What lines call the words, and where they lie, both in the order of their asking.
@@ -29,12 +28,62 @@ fn name_of<'a>(word: &'a str) -> WordName<'a>
     }
 }
 
+/// Where the first `+` of a name is.
+fn plus_in(name: &[u8]) -> Option<usize>
+    ensures value { result ≡ position is_plus name.now }
+    ensures inside { IfSome result (λ at. at < length name.now) }
+{
+    name.iter().position(|byte| *byte == b'+')
+}
+
+/// The sum, where it is an address.
+fn beyond(start: u32, offset: u32) -> Option<u32>
+    ensures { result ≡ beyond start offset }
+{
+    let place = start as u64 + offset as u64;
+    if place <= u32::MAX as u64 {
+        Some(place as u32)
+    } else {
+        None
+    }
+}
+
+/// Where the word lies that is so many bytes behind a symbol.
+fn place_behind(symbols: &Symbols, symbol: &[u8], offset: &[u8]) -> Option<u32>
+    ensures { result ≡ place_behind symbols.now symbol.now offset.now }
+{
+    match (symbols.address_of(symbol), address_in(offset)) {
+        (Some(start), Some(offset)) => beyond(start, offset),
+        _ => None,
+    }
+}
+
+/// Where the word lies that is called by a symbol and so many bytes, as `counter+4`.
+fn offset_place(symbols: &Symbols, name: &[u8]) -> Option<u32>
+    ensures { result ≡ offset_place symbols.now name.now }
+{
+    match plus_in(name) {
+        Some(at) => place_behind(symbols, &name[..at], &name[at + 1..]),
+        None => None,
+    }
+}
+
+/// Where a symbol lies, or a word behind one. The whole name comes first, as a symbol's own may have a `+`.
+fn symbol_place(symbols: &Symbols, name: &[u8]) -> Option<u32>
+    ensures { result ≡ symbol_place symbols.now name.now }
+{
+    match symbols.address_of(name) {
+        Some(address) => Some(address),
+        None => offset_place(symbols, name),
+    }
+}
+
 /// Where the word lies that is called so.
 fn place_of(symbols: &Symbols, name: &WordName<'_>) -> Option<u32>
     ensures { result ≡ place_of symbols.now name.now }
 {
     match name {
-        WordName::Symbol(symbol) => symbols.address_of(symbol.as_bytes()),
+        WordName::Symbol(symbol) => symbol_place(symbols, symbol.as_bytes()),
         WordName::Address(address) => Some(*address),
     }
 }

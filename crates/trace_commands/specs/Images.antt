@@ -8,7 +8,7 @@ use Rattle.command_settings.specs.declared.wanted.Replay.{Replay}
 use Rattle.elf_loader.specs.Image.{Initial}
 use Rattle.elf_loader.specs.Size.{base}
 use Rattle.elf_symbols.specs.Named.{Named}
-use Rattle.script_commands.specs.Named.{HoldsNamedImage}
+use Rattle.command_files.specs.Named.{HoldsNamedImage}
 use Rattle.trace_recorder.specs.History.{History}
 
 -- how many KiB of memory a trace has

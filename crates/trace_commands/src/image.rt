@@ -5,12 +5,11 @@ ghost use Rattle.trace_commands.specs.Images as spec;
 ghost use Rattle.trace_commands.specs.Images.{HoldsNames, IsNamingFault};
 ghost use Rattle.trace_text.specs.TraceLimits.{IsTrace};
 
-use command_files::{Fault, Files, remark};
+use command_files::{Fault, Files, NamedImage, named_image_in, remark};
 use command_settings::Replay;
 use elf_loader::Image;
 use elf_symbols::Symbols;
 use machine_types::BASE;
-use script_commands::{NamedImage, named_image_in};
 use std::alloc::Global;
 use std::fmt::{self, Display, Formatter};
 use trace_recorder::Trace;

@@ -22,8 +22,9 @@ mod words;
 
 pub use cause::{Field, Form, Misfit, TextCause, Wrong};
 pub use fault::{TextCode, TextError};
+pub use message_reading::{data_at, direction_at, message_at};
 pub use script::{Events, Script};
-pub use script_reading::read_script;
+pub use script_reading::{channel_at, read_script};
 pub use script_writing::{spell_event, write_script};
 pub use spellings::spell_message;
 pub use trace_reading::{no_text_begins_another, read_trace};

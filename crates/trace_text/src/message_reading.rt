@@ -65,9 +65,9 @@ const GRANT_ENDINGS: [(&[u8], Name); 3] = [
     (b"Ack ", Name::GrantAck),
 ];
 
-/// Whether a message was sent or taken.
+/// Whether a message was sent or taken (`s ` or `t `), and what stands behind that.
 #[tactic(auto, unfolding(crate::specs::TraceReading::direction_at))]
-pub(crate) fn direction_at(bytes: &[u8]) -> Option<(Direction, &[u8])>
+pub fn direction_at(bytes: &[u8]) -> Option<(Direction, &[u8])>
     ensures { option_map (λ x. (x.0, x.1.now)) result ≡ reads.direction_at bytes.now }
 {
     word_of(&DIRECTIONS, bytes)
@@ -138,10 +138,10 @@ pub(crate) fn name_at(bytes: &[u8]) -> Option<(Name, &[u8])>
     Some((Name::AcquireBlock, rest))
 }
 
-/// A line's bytes.
+/// A line's bytes, two digits each, and what stands behind them.
 #[inline(always)]
 #[tactic(auto, unfolding(crate::specs::TraceReading::data_at))]
-pub(crate) fn data_at(bytes: &[u8], size: LineSize) -> Option<(LineData, &[u8])>
+pub fn data_at(bytes: &[u8], size: LineSize) -> Option<(LineData, &[u8])>
     ensures { option_map (λ x. (x.0, x.1.now)) result ≡ reads.data_at size bytes.now }
 {
     match size {
@@ -220,10 +220,11 @@ fn carried_at(bytes: &[u8], size: LineSize, name: Name) -> Option<(Body, &[u8])>
     }
 }
 
-/// A message: its name, its line, and what it says of it.
+/// A message: its name, its line, and what it says of it, with bytes of a line of this size where it carries some; and
+/// what stands behind it.
 #[inline(always)]
 #[tactic(auto, unfolding(crate::specs::TraceReading::message_at))]
-pub(crate) fn message_at(bytes: &[u8], size: LineSize) -> Option<(Msg, &[u8])>
+pub fn message_at(bytes: &[u8], size: LineSize) -> Option<(Msg, &[u8])>
     ensures { option_map (λ x. (x.0, x.1.now)) result ≡ reads.message_at size bytes.now }
 {
     let (name, rest) = name_at(bytes)?;

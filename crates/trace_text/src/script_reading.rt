@@ -38,8 +38,9 @@ const CHANNELS: [(&[u8], Channel); 5] = [
     (b"E ", Channel::E),
 ];
 
+/// A channel's letter, the blank behind it, and what stands behind that.
 #[tactic(auto, unfolding(crate::specs::ScriptReading::channel_at))]
-pub(crate) fn channel_at(bytes: &[u8]) -> Option<(Channel, &[u8])>
+pub fn channel_at(bytes: &[u8]) -> Option<(Channel, &[u8])>
     ensures { option_map (λ x. (x.0, x.1.now)) result ≡ reads.channel_at bytes.now }
 {
     word_of(&CHANNELS, bytes)

@@ -1,8 +1,8 @@
 //! What a memory model was found to allow, as it is told, judged and kept.
 
-ghost use Rattle.std.specs.Prelude.{◌≡◌, ◌≢◌, All, false, not};
-ghost use Rattle.explore_command.specs.Searching.{is_whole};
-ghost use Rattle.explore_command.specs.ModelKeeping.{AreWaysKept, HasText, IsWayFile};
+ghost use Rattle.std.specs.Prelude.{◌≡◌, ◌≢◌, false, not};
+ghost use Rattle.explore_command.specs.Searching.{is_whole, tells_stops};
+ghost use Rattle.explore_command.specs.ModelKeeping.{AreKeptOf, HaveTexts, IsFileOf};
 ghost use Rattle.architecture_outcomes.specs.Outcomes.{end_of};
 ghost use Rattle.architecture_outcomes.specs.Text.{architecture_text};
 ghost use Rattle.exploration_text.specs.Words.{end_text};
@@ -10,28 +10,30 @@ ghost use Rattle.flat_model.specs.Shown.{told};
 ghost use Rattle.state_search.specs.declared.findings.Extent.TheVariants as extent;
 ghost use Rattle.architecture_outcomes.specs.TheVariants as reach;
 
-use crate::architecture::keeping::keep_outcomes;
+use crate::architecture::keeping::keep_found;
 use crate::findings::Findings;
 use crate::keeping::{Folder, Keepable};
 use architecture_outcomes::window_search::Reach;
 use architecture_outcomes::{Architecture, Outcome, text_of};
 use command_files::{Fault, Files};
+use elf_symbols::Symbols;
 use exploration_text::{WordName, end_text};
 use flat_model::HartResult;
 use state_search::Extent;
 use std::alloc::{AllocError, Global};
 
-/// What a search under a memory model found, and what lines call the words of memory.
+/// What a search under a memory model found, what lines call the words of memory, and the names that the image's file has.
 #[derive(Drop)]
 pub(crate) struct Searched<'a> {
     pub(crate) names: Vec<WordName<'a>>,
+    pub(crate) symbols: Symbols,
     pub(crate) architecture: Architecture,
 }
 
 impl Findings for Searched<'_> {
     type Outcome = Outcome;
 
-    ghost text = { λ s. architecture_text s.names.items s.architecture };
+    ghost text = { λ s. architecture_text s.names.items s.symbols s.architecture };
 
     ghost outcomes = { λ s. s.architecture.outcomes.items };
 
@@ -39,7 +41,7 @@ impl Findings for Searched<'_> {
 
     ghost harts = { λ o. (end_of o).results };
 
-    ghost has_failures = { λ s. false };
+    ghost has_failures = { λ s. tells_stops s.architecture };
 
     ghost is_stuck = { λ s. false };
 
@@ -48,7 +50,7 @@ impl Findings for Searched<'_> {
     ghost IsWhole = { λ s. (s.architecture.machine ≢ extent.OutOfMemory) × (s.architecture.reach ≢ reach.OutOfMemory) };
 
     fn text(&self, alloc: Global) -> Result<Vec<u8>, AllocError> {
-        text_of(alloc, &self.names, &self.architecture)
+        text_of(alloc, &self.names, &self.symbols, &self.architecture)
     }
 
     fn outcomes(&self) -> &[Outcome] {
@@ -65,11 +67,11 @@ impl Findings for Searched<'_> {
         &outcome.harts
     }
 
-    // It tells outcomes alone, and doesn't look for states from which no schedule ends.
-
     fn has_failures(&self) -> bool {
-        false
+        !self.architecture.failures.is_empty()
     }
+
+    // It doesn't look for states from which no schedule ends.
 
     fn is_stuck(&self) -> bool {
         false
@@ -87,13 +89,13 @@ impl Findings for Searched<'_> {
 }
 
 impl Keepable for Searched<'_> {
-    ghost HasTexts = { λ s. All (λ o. HasText o.way) s.architecture.outcomes.items };
+    ghost HasTexts = { λ s. HaveTexts s.architecture };
 
-    ghost AreKept = { λ s left config kib folder. AreWaysKept left config kib folder 1 s.architecture.outcomes.items };
+    ghost AreKept = { λ s. AreKeptOf s.architecture };
 
-    ghost IsFileOf = { λ s. IsWayFile 1 s.architecture.outcomes.items };
+    ghost IsFileOf = { λ s. IsFileOf s.architecture };
 
     fn keep_in<'a, F: Files>(&self, folder: Folder<'a>, files: &mut F) -> Result<(), Fault<'a>> {
-        keep_outcomes(folder, files, &self.architecture.outcomes)
+        keep_found(folder, files, &self.architecture)
     }
 }

@@ -62,7 +62,7 @@ pub fn architecture_files<'a, F: Files, O: Write, E: Write, P: Progress>(
     let AskedWords {
         config,
         image,
-        symbols: _,
+        symbols,
         allowed,
         targets,
     } = AskedWords::read(alloc, files, wanted, words)?;
@@ -81,6 +81,7 @@ pub fn architecture_files<'a, F: Files, O: Write, E: Write, P: Progress>(
     };
     let found = Searched {
         names: targets.names,
+        symbols,
         architecture,
     };
     // Called for its clause that the bytes are an image's.

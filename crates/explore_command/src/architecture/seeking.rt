@@ -13,7 +13,7 @@ use flat_model::HartResult;
 use progress_line::Progress;
 use std::alloc::{AllocError, Global};
 
-/// Seeks an outcome in which a hart has stopped, or that a text doesn't allow, where it is asked to.
+/// Seeks a hart that stops, and an outcome in which one has, or that a text doesn't allow, where it is asked to.
 #[derive(Drop)]
 pub(crate) struct FirstOutcome<'f, 'w, P> {
     pub(crate) first: First<'f, 'w, P>,
@@ -56,14 +56,14 @@ impl<'f, 'w, P: Progress> FirstOutcome<'f, 'w, P> {
 }
 
 impl<P: Progress> Seek for FirstOutcome<'_, '_, P> {
-    ghost SeeksStops = { λ seek. ⊥ };
+    ghost SeeksStops = { λ seek. seek.first.is_asked ≡ true };
 
     ghost IsSought = { λ seek outcome. IsSoughtBy seek.first.is_asked seek.first.names.now seek.first.allowed outcome };
 
     ghost IsTimed = { λ seek. 0 < seek.first.seconds };
 
     fn seeks_stops(&self) -> bool {
-        false
+        self.first.is_asked
     }
 
     fn seeks_outcomes(&self) -> bool {

@@ -10,12 +10,11 @@ ghost use Rattle.explore_command.specs.Targets.{names_of};
 ghost use Rattle.explorer.specs.Words.{CanShowEach};
 
 use crate::keeping::check_folder;
-use command_files::{Fault, Files, allow_file, named_config, out_of_limits};
+use command_files::{Fault, Files, allow_file, named_config, named_image_in, out_of_limits};
 use command_settings::Explore;
 use elf_loader::Image;
 use elf_symbols::Symbols;
 use machine_types::Config;
-use script_commands::named_image_in;
 use search_files::{Targets, targets_of};
 use std::alloc::Global;
 

@@ -201,7 +201,7 @@ pub fn play_all<R: Files + Threads + Wait + Sync + AllocGlobal, W: Write>(
     rt: &R,
     out: &mut W,
 ) -> Result<()> {
-    let cases = fs::read_to_string(rt, "cases")?;
+    let cases = fs::read_to_string(rt, "replayed/cases")?;
     let mut stage = Stage {
         case: Case::blank(rt.alloc()),
         played: Played::nothing(rt.alloc()),

@@ -14,17 +14,29 @@ use std::thread::Threads;
 
 /// Images of bare words and ELF files, with the scripts that they are played by.
 static REPLAYS: [(&str, &str, ImageKind); 5] = [
-    ("row-10-1.bin", "row-10-1.script", ImageKind::Raw),
-    ("row-48-2.bin", "row-48-2.script", ImageKind::Raw),
-    ("case-005.bin", "case-005.script", ImageKind::Raw),
-    ("cas.elf", "cas.script", ImageKind::Elf),
-    ("sum.elf", "sum.script", ImageKind::Elf),
+    (
+        "replayed/row-10-1.bin",
+        "replayed/row-10-1.script",
+        ImageKind::Raw,
+    ),
+    (
+        "replayed/row-48-2.bin",
+        "replayed/row-48-2.script",
+        ImageKind::Raw,
+    ),
+    (
+        "replayed/random-005-4-harts-1-by-4.bin",
+        "replayed/random-005-4-harts-1-by-4.script",
+        ImageKind::Raw,
+    ),
+    ("replayed/cas.elf", "replayed/cas.script", ImageKind::Elf),
+    ("replayed/sum.elf", "replayed/sum.script", ImageKind::Elf),
 ];
 
 static TRACES: [&str; 3] = [
-    "random-11-00115.trace",
-    "random-11-00156.trace",
-    "random-11-00173.trace",
+    "judged/random-11-00115.trace",
+    "judged/random-11-00156.trace",
+    "judged/random-11-00173.trace",
 ];
 
 /// A file's name and its bytes.

@@ -15,7 +15,7 @@ pub fn judge_all<R: Files + Threads + Wait + Sync + AllocGlobal, W: Write>(
     rt: &R,
     out: &mut W,
 ) -> Result<()> {
-    let cases = fs::read_to_string(rt, "verdicts")?;
+    let cases = fs::read_to_string(rt, "judged/verdicts")?;
     let mut said = Said::nothing(rt.alloc());
     for case in cases.lines() {
         judge_case(rt, case, &mut said, out)?;

@@ -21,9 +21,9 @@ const TRACES: usize = 24;
 /// The logs of machines with a wrong meaning each: those of the right machine, changed by hand into what such
 /// a machine would say.
 static WRONG: [&str; 3] = [
-    "grant_before_all_acks",
-    "data_with_each_grant",
-    "grant_without_data_after_a_probe",
+    "logs/grant_before_all_acks",
+    "logs/data_with_each_grant",
+    "logs/grant_without_data_after_a_probe",
 ];
 
 /// How many changed logs were judged, by the rules that they break.
@@ -48,7 +48,7 @@ pub fn judge_logs<R: Files + AllocGlobal, W: Write>(rt: &R, out: &mut W) -> Resu
         listed: Tally::NOTHING,
         log: Vec::new(rt.alloc()),
     };
-    let bytes = fs::read(rt, "logs")?;
+    let bytes = fs::read(rt, "logs/machine")?;
     judged.judge_all(rt.alloc(), &bytes)?;
     judged.print(out)
 }

@@ -13,7 +13,11 @@ use std::rt::Files;
 use trace_recorder::{OpId, Trace};
 
 /// The files, each with how many traces it has.
-static FILES: [(&str, usize); 3] = [("rows", 74), ("programs", 200), ("shapes", 137)];
+static FILES: [(&str, usize); 3] = [
+    ("judged/rows", 74),
+    ("judged/programs", 200),
+    ("judged/shapes", 137),
+];
 
 /// Judges each file, and says how many orders were judged alike.
 pub fn judge_files<R: Files + AllocGlobal, W: Write>(rt: &R, out: &mut W) -> Result<()> {

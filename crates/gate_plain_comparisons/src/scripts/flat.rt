@@ -13,11 +13,14 @@ use trace_text::Script;
 /// Wrong flat meanings, by the names of the scripts that refute them. In these scripts no line moves but on
 /// demand, so an SC may be asked to succeed exactly where the flat machine's reservation stands.
 static WRONG: [(&str, Variant); 5] = [
-    ("only-writes-end", Variant::OnlyWritesEnd),
-    ("no-rivals", Variant::NoRivals),
-    ("asks-buffer-first", Variant::AsksBufferFirst),
-    ("drains-end-nothing", Variant::DrainsEndNothing),
-    ("buffered-loads-access", Variant::BufferedLoadsAccess),
+    ("refuted/only-writes-end", Variant::OnlyWritesEnd),
+    ("refuted/no-rivals", Variant::NoRivals),
+    ("refuted/asks-buffer-first", Variant::AsksBufferFirst),
+    ("refuted/drains-end-nothing", Variant::DrainsEndNothing),
+    (
+        "refuted/buffered-loads-access",
+        Variant::BufferedLoadsAccess,
+    ),
 ];
 
 /// The flat machine shows each event of a case. Counts what happened.

@@ -3,11 +3,12 @@
 ghost use Rattle.std.specs.Prelude.{◌≡◌, IfErr, IfOk, IfSome, OnOk};
 ghost use Rattle.command_files.specs.Faults.{LeavesAtFault};
 ghost use Rattle.command_files.specs.Status.{status_of};
-ghost use Rattle.script_commands.specs.Addresses.{address};
+ghost use Rattle.command_files.specs.Addresses.{address};
 ghost use Rattle.script_commands.specs.Charting.{IsAddress, IsChartFault, IsCharted, IsDrawingFault, IsNoAddress, IsPictureCutOff};
 
-use crate::chart::address::address_in;
-use command_files::{Fault, Files, config_of, image_in, remark_outside, remark_refused, script_in};
+use command_files::{
+    Fault, Files, address_in, config_of, image_in, remark_outside, remark_refused, script_in,
+};
 use command_settings::Replay;
 use run_chart::{ChartError, STYLE, write_chart};
 use std::alloc::Global;

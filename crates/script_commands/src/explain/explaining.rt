@@ -6,9 +6,10 @@ ghost use Rattle.command_files.specs.Contents.{HoldsBytes};
 ghost use Rattle.script_commands.specs.Explaining.{IsExplainFault, IsExplained, IsPartOfStream, IsStreamCutOff, IsWholeExplanation, LeavesOfStream, state_if};
 ghost use Rattle.text_fields.specs.Writing.{Writes};
 
-use crate::explain::named::{NamedImage, named_image_in};
 use crate::idle::{IdleNote, remark_idle};
-use command_files::{Fault, Files, config_of, remark_refused, script_from};
+use command_files::{
+    Fault, Files, NamedImage, config_of, named_image_in, remark_refused, script_from,
+};
 use command_settings::Replay;
 use event_stream::coherent_machine::Machine;
 use event_stream::{StreamError, Strictness, write_state, write_stream};

@@ -4,8 +4,7 @@ ghost use Rattle.std.specs.Prelude.{IfErr, IfOk};
 ghost use Rattle.command_files.specs.Composition.{IsComposition};
 ghost use Rattle.script_commands.specs.Unfinished.{IsTraceUnfinished};
 
-use command_files::config_of;
-use command_files::machine_traces::every_trace_has_a_text;
+use command_files::{config_of, every_trace_has_a_text};
 use elf_loader::Image;
 use event_stream::coherent_machine::{Machine, ReplayError, replay};
 use machine_types::MemoryModel;

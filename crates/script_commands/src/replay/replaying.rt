@@ -8,11 +8,12 @@ ghost use Rattle.script_commands.specs.Replaying.{IsCutOff, IsReplayEndTold, IsR
 ghost use Rattle.command_files.specs.Faults.{IsImageFault, IsReadFault, IsScriptFault, LeavesAtFault};
 ghost use Rattle.command_files.specs.Faults.{IsReplayFault};
 
-use crate::explain::{NamedImage, named_image_in};
 use crate::idle::IdleNote;
 use crate::replay::composing::{CompositionError, replay_and_write};
 use crate::replay::ends::{EndNote, circles_behind};
-use command_files::{Fault, Files, config_of, print_ends, remark_refused, script_in};
+use command_files::{
+    Fault, Files, NamedImage, config_of, named_image_in, print_ends, remark_refused, script_in,
+};
 use command_settings::Replay;
 use event_stream::coherent_machine::Machine;
 use machine_types::MemoryModel;

@@ -3,9 +3,13 @@ use Rattle.std.proofs.lemmas.List.Elements.{All-map}
 use Rattle.std.specs.List.Sorted.{IsStrictlySortedBy}
 use Rattle.std.specs.Ordering.{on}
 use Rattle.architecture_outcomes.proofs.Ends.{all_found, same_ends, strict}
+use Rattle.architecture_outcomes.proofs.Stopping.{all_decided_found, all_scripted, each_stop_told, same_failures, some_of}
 use Rattle.architecture_outcomes.proofs.Visited.{states_are}
+use Rattle.window_search.specs.Stops.{AreOnce}
 use Rattle.architecture_outcomes.specs.declared.outcome.Outcome.{Outcome}
-use Rattle.architecture_outcomes.specs.Outcomes.{HasSought, IsMachine, IsWitnessed, end_of, ends_of, of_found}
+use Rattle.architecture_outcomes.specs.declared.failing.Failing.{Failing}
+use Rattle.architecture_outcomes.specs.Failings.{HasEachFailure, HasSought, IsDecidedStop, IsShown, TellsEachStop, failures_in, of_failure}
+use Rattle.architecture_outcomes.specs.Outcomes.{IsMachine, IsWitnessed, end_of, ends_of, of_found}
 use Rattle.architecture_outcomes.specs.Visited.{AreMachineStates}
 use Rattle.exploration_text.specs.Outcomes.{HasEachEnd}
 use Rattle.exploration_text.specs.Ends.{outcomes_of}
@@ -38,9 +42,34 @@ returns-clause-visited g c =
           (states_are c.args.image.now c.args.config c.args.addresses.now e visited.0 visited.1),
     )
 
+pub returns-clause-stopped : goal.returns-clause-stopped
+returns-clause-stopped g c =
+    let P = IsShown c.args.image.now c.args.config c.args.addresses.now in
+    let found = c.in_ok-outcomes.field-0.failures.items in
+    subst (All P) (sym c.in_ok-stops_of_machine.ensures) (All-map P of_failure found (all_scripted c.args.image.now c.args.config c.args.addresses.now found c.in_ok-outcomes.ensures.failures))
+
+pub returns-clause-stopped_once : goal.returns-clause-stopped_once
+returns-clause-stopped_once g c =
+    subst (λ (fs : List Failing). AreOnce (failures_in fs)) (sym c.in_ok-stops_of_machine.ensures) (subst AreOnce (same_failures c.in_ok-outcomes.field-0.failures.items) c.in_ok-outcomes.ensures.failures_once)
+
+pub returns-clause-stopped_machine : goal.returns-clause-stopped_machine
+returns-clause-stopped_machine g c = subst (All IsDecidedStop) (sym c.in_ok-stops_of_machine.ensures) (all_decided_found c.in_ok-outcomes.field-0.failures.items)
+
+pub returns-clause-each_stopped : goal.returns-clause-each_stopped
+returns-clause-each_stopped g c = λ all.
+    subst (λ (fs : List Failing). HasEachFailure c.args.image.now c.args.config (failures_in fs)) (sym c.in_ok-stops_of_machine.ensures)
+    (subst (HasEachFailure c.args.image.now c.args.config) (same_failures c.in_ok-outcomes.field-0.failures.items) (c.in_ok-outcomes.ensures.each_failure all))
+
+pub returns-clause-each_told : goal.returns-clause-each_told
+returns-clause-each_told g c = λ all.
+    subst (TellsEachStop c.args.image.now c.args.config) (sym c.in_ok-stops_of_machine.ensures) (each_stop_told c.args.image.now c.args.config c.in_ok-outcomes.field-0.failures.items (c.in_ok-outcomes.ensures.each_failure all))
+
 pub returns-clause-first : goal.returns-clause-first
 returns-clause-first g c = λ first.
     let stops = g.S.Seek.SeeksStops c.args.seek.now in
     let sought = g.S.Seek.IsSought c.args.seek.now in
-    let ends : HasSought stops sought (outcomes_of c.in_ok-outcomes.field-0.outcomes.items) = elim (c.in_ok-outcomes.ensures.first first) [ inl told ↦ inl told.0 | inr told ↦ inr told ] in
-    subst (λ (os : List Outcome). HasSought stops sought (ends_of os)) (sym c.in_ok-of_machine.ensures) (subst (λ (es : List End). HasSought stops sought es) (same_ends c.in_ok-outcomes.field-0.outcomes.items) ends)
+    let e = c.in_ok-outcomes.field-0 in
+    let here : HasSought stops sought (map of_failure e.failures.items) (outcomes_of e.outcomes.items) = elim (c.in_ok-outcomes.ensures.first first) [ inl told ↦ inl (told.0, some_of e.failures.items told.1) | inr told ↦ inr told ] in
+    let ends : HasSought stops sought (map of_failure e.failures.items) (ends_of c.in_ok-of_machine.field-0.items) = subst (λ (os : List Outcome). HasSought stops sought (map of_failure e.failures.items) (ends_of os)) (sym c.in_ok-of_machine.ensures)
+    (subst (λ (es : List End). HasSought stops sought (map of_failure e.failures.items) es) (same_ends e.outcomes.items) here) in
+    subst (λ (fs : List Failing). HasSought stops sought fs (ends_of c.in_ok-of_machine.field-0.items)) (sym c.in_ok-stops_of_machine.ensures) ends

@@ -1,6 +1,9 @@
-use Rattle.std.proofs.Common.{ℕ, List, subst}
+use Rattle.std.proofs.Common.{◌≡◌, ℕ, List, subst, sym}
 use Rattle.command_files.proofs.Left.{handed_up}
-use Rattle.check_command.specs.Piped.{IsLogOf}
+use Rattle.check_command.specs.Messages.{text_meant}
+use Rattle.log_text.specs.Meant.{meant}
+use Rattle.trace_text.specs.TraceLimits.{IsTrace}
+use Rattle.trace_text.specs.Traces.{text}
 use Rattle.check_command.proofs.Piping.{meant_of}
 use Rattle.check_command.proofs.messages.log_in.Goals as goal
 
@@ -9,4 +12,5 @@ returns-in_err-trace-clause-told g c = handed_up _ c.from_residual.result _ c.fr
     (meant_of c.args.skip c.args.bytes.items c.as_slice-source.result.now c.args.file _ c.as_slice-source.ensures.value c.in_err-trace.ensures.told)
 
 pub returns-clause-read : goal.returns-clause-read
-returns-clause-read g c = subst (λ (b : List ℕ). IsLogOf c.args.skip b c.in_ok-trace.trace.history) c.as_slice-source.ensures.value c.in_ok-trace.ensures.read
+returns-clause-read g c = subst (λ (b : List ℕ). (c.args.bytes.items ≡ b) × (c.in-Ok.meant.items ≡ meant c.args.skip b) × IsTrace c.in_ok-trace.trace.history × (text_meant c.args.skip b ≡ text c.in_ok-trace.trace.history))
+    c.as_slice-source.ensures.value (sym c.as_slice-source.ensures.value, c.in-Ok.ensures, c.in_ok-trace.ensures.read.0, c.in_ok-trace.ensures.read.1)

@@ -2,7 +2,7 @@ use Rattle.std.proofs.Common.{◌-◌, ◌∷◌, [], List, ℕ, Bor}
 use Rattle.litmus_parts.specs.declared.step.Step.TheVariants as steps
 use Rattle.litmus_text.specs.Propositions.{operand_at, conjunction_of}
 use Rattle.litmus_text.proofs.Chains.{chain_end, chain_refuse, chain_more, chain_full}
-use Rattle.litmus_text.proofs.Nesting.{conjoined, conjunction_refused, disjoined, disjunction_refused, no_arrows, implied, not_implied, proposition_refused, no_depth, negated, grouped, related_alone}
+use Rattle.litmus_text.proofs.Nesting.{conjoined, conjunction_refused, disjoined, disjunction_refused, none_taken, one_taken, all_taken, none_follows, too_many_arrows, no_depth, negated, grouped, related_alone}
 use Rattle.litmus_text.proofs.proposition.+nesting.Goals as goal
 
 pub conjunction_at-returns-in-Ok : goal.conjunction_at-returns-in-Ok
@@ -53,14 +53,17 @@ operand_at-returns-in-None-Some t c = rw (grouped c.args.depth c.args.harts c.ar
 pub operand_at-returns-in-None-None : goal.operand_at-returns-in-None-None
 operand_at-returns-in-None-None t c = rw (related_alone c.args.depth c.args.harts c.args.bytes.now c.if-depth-eq0.false c.in-None-None.ensures c.in-None-None.ensures') c.add_atom.ensures
 
-pub proposition_of-returns-then-arrows-eq0 : goal.proposition_of-returns-then-arrows-eq0
-proposition_of-returns-then-arrows-eq0 t c = rw c.at.ensures (no_arrows c.args.arrows (operand_at c.args.depth c.args.harts) c.args.bytes.now c.if-arrows-eq0.true)
+pub proposition_of-arrows-init : goal.proposition_of-arrows-init
+proposition_of-arrows-init t c = none_taken _ _
 
-pub proposition_of-returns-in-Some : goal.proposition_of-returns-in-Some
-proposition_of-returns-in-Some t c = implied (λ (x : Bor (List ℕ)). x.now) c.args.steps.now.items c.disjunction_at.new.steps.items c.implied_at.new.steps.items c.in-Ok.rest.now c.in-Some.later.now c.implied_at.result c.args.arrows (operand_at c.args.depth c.args.harts) c.args.bytes.now c.if-arrows-eq0.false c.in-Ok.ensures c.in-Some.ensures c.implied_at.ensures
+pub proposition_of-arrows-preserved : goal.proposition_of-arrows-preserved
+proposition_of-arrows-preserved t c = one_taken c.arrows.steps.items c.disjunction_at.new.steps.items c.arrows.taken (operand_at c.args.depth c.args.harts) c.arrows.rest.now c.in-Ok.behind.now c.in-Some.later.now _ c.arrows-test.true c.in-Ok.ensures c.in-Some.ensures c.arrows.invariant
 
 pub proposition_of-returns-in-None : goal.proposition_of-returns-in-None
-proposition_of-returns-in-None t c = not_implied c.args.steps.now.items c.disjunction_at.new.steps.items c.in-Ok.rest.now c.args.arrows (operand_at c.args.depth c.args.harts) c.args.bytes.now c.if-arrows-eq0.false c.in-Ok.ensures c.in-None.ensures
+proposition_of-returns-in-None t c = all_taken (λ (x : Bor (List ℕ)). x.now) c.args.steps.now.items c.arrows.steps.items c.disjunction_at.new.steps.items c.put_arrows.new.steps.items c.arrows.taken (operand_at c.args.depth c.args.harts) c.arrows.rest.now c.in-Ok.behind.now c.put_arrows.result _ c.arrows-test.true c.in-Ok.ensures c.in-None.ensures c.put_arrows.ensures c.arrows.invariant
 
 pub proposition_of-returns-in-Err : goal.proposition_of-returns-in-Err
-proposition_of-returns-in-Err t c = proposition_refused c.in-Err.stop c.args.arrows (operand_at c.args.depth c.args.harts) c.args.bytes.now c.if-arrows-eq0.false c.in-Err.ensures
+proposition_of-returns-in-Err t c = none_follows c.in-Err.stop c.args.steps.now.items c.arrows.steps.items c.arrows.taken (operand_at c.args.depth c.args.harts) c.arrows.rest.now _ c.arrows-test.true c.in-Err.ensures c.arrows.invariant
+
+pub proposition_of-returns : goal.proposition_of-returns
+proposition_of-returns t c = rw c.at.ensures (too_many_arrows c.args.steps.now.items c.arrows.steps.items c.arrows.taken (operand_at c.args.depth c.args.harts) c.arrows.rest.now _ c.arrows-test.false c.arrows.invariant)

@@ -1,7 +1,8 @@
 use Rattle.std.proofs.Common.{◌≡◌, ◌+◌, ◌-◌, ◌*◌, [], ◌∷◌}
 use Rattle.litmus_parts.specs.Stops.{onto}
 use Rattle.litmus_parts.specs.declared.step.Step.TheVariants as steps
-use Rattle.litmus_text.specs.Propositions.{chain_at, operand_at, conjunction_of}
+use Rattle.litmus_text.specs.Propositions.{chain_at, operand_at, conjunction_of, proposition_of}
+use Rattle.litmus_text.proofs.Nesting.{with_arrows}
 use Rattle.litmus_text.proofs.proposition.+nesting.Given as goal
 
 abbrev pub decreases-operand_at : goal.decreases-operand_at
@@ -26,16 +27,16 @@ abbrev pub decreases-disjunction_at : goal.decreases-disjunction_at
 decreases-disjunction_at l = 1000 * l.depth + 6
 
 abbrev pub decreases-proposition_of : goal.decreases-proposition_of
-decreases-proposition_of l = 1000 * l.depth + 7 + 2 * l.arrows
-
-abbrev pub decreases-implied_at : goal.decreases-implied_at
-decreases-implied_at l = 1000 * l.depth + 8 + 2 * l.arrows
+decreases-proposition_of l = 1000 * l.depth + 7
 
 abbrev pub decreases-grouped_at : goal.decreases-grouped_at
-decreases-grouped_at l = 1000 * l.depth + 200
+decreases-grouped_at l = 1000 * l.depth + 8
 
 abbrev pub invariant-conjuncts_at-conjuncts : goal.invariant-conjuncts_at-conjuncts
 invariant-conjuncts_at-conjuncts l = onto l.steps.items (chain_at (47 ∷ 92 ∷ []) steps.And (operand_at l.depth l.harts) (1000 - l.taken) l.rest) ≡ onto l.initial.steps.items (chain_at (47 ∷ 92 ∷ []) steps.And (operand_at l.depth l.harts) 1000 l.bytes)
 
 abbrev pub invariant-disjuncts_at-disjuncts : goal.invariant-disjuncts_at-disjuncts
 invariant-disjuncts_at-disjuncts l = onto l.steps.items (chain_at (92 ∷ 47 ∷ []) steps.Or (conjunction_of (operand_at l.depth l.harts)) (1000 - l.taken) l.rest) ≡ onto l.initial.steps.items (chain_at (92 ∷ 47 ∷ []) steps.Or (conjunction_of (operand_at l.depth l.harts)) 1000 l.bytes)
+
+abbrev pub invariant-proposition_of-arrows : goal.invariant-proposition_of-arrows
+invariant-proposition_of-arrows l = onto l.steps.items (with_arrows l.taken (proposition_of (64 - l.taken) (operand_at l.depth l.harts) l.rest)) ≡ onto l.initial.steps.items (proposition_of 64 (operand_at l.depth l.harts) l.bytes)

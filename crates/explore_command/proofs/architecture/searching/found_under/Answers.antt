@@ -5,7 +5,7 @@ use Rattle.explore_command.proofs.architecture.searching.found_under.Goals as go
 pub returns-clause-found : goal.returns-clause-found
 returns-clause-found g c =
     let is = c.explore_architecture-found.ensures in
-    searched.found_under c.args.image.now c.args.config c.args.addresses.now c.args.window c.args.wanted.states c.explore_architecture-found.result is.shown is.machine is.alone is.allowed is.opens is.bounded is.limited is.met is.order is.within is.full is.model is.visited is.window
+    searched.found_under c.args.image.now c.args.config c.args.addresses.now c.args.window c.args.wanted.states c.explore_architecture-found.result is.shown is.machine is.alone is.allowed is.failing is.stopped is.stopped_once is.stopped_machine is.stopped_alone is.opens is.bounded is.limited is.met is.order is.within is.full is.model is.visited is.window
 
 pub returns-clause-ends : goal.returns-clause-ends
 returns-clause-ends g c =

@@ -1,7 +1,7 @@
 use Rattle.std.proofs.Common.{inl, inr, subst}
 use Rattle.command_files.specs.Contents.{Contents}
 use Rattle.command_files.proofs.Left.{handed_up, image_as_before}
-use Rattle.script_commands.specs.Named.{HoldsNamedImage}
+use Rattle.command_files.specs.Named.{HoldsNamedImage}
 use Rattle.explore_command.proofs.asked.Asked.read.Goals as goal
 
 pub returns-in_err-allowed-clause-told : goal.returns-in_err-allowed-clause-told

@@ -1,6 +1,6 @@
 use Rattle.std.proofs.Common.{refl, subst}
 use Rattle.event_stream.specs.declared.errors.StreamError.TheVariants as stream
-use Rattle.script_commands.specs.Named.{HoldsNamedImage}
+use Rattle.command_files.specs.Named.{HoldsNamedImage}
 use Rattle.command_files.specs.Contents.{Contents}
 use Rattle.command_files.proofs.Left.{handed_up, image_as_before}
 use Rattle.script_commands.proofs.ExplainTold.{image_left, of_explained_image, of_explained_script, script_left}

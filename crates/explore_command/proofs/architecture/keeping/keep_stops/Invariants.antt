@@ -1,0 +1,10 @@
+use Rattle.std.proofs.Common.{length}
+use Rattle.explore_command.specs.ModelKeeping.{failing_way, failure_stem}
+use Rattle.explore_command.proofs.ModelKept.{HasKept}
+use Rattle.explore_command.proofs.architecture.keeping.keep_stops.Given as goal
+
+abbrev pub invariant-loop-rest : goal.invariant-loop-rest
+invariant-loop-rest g l = HasKept failure_stem failing_way (g.F.Files.held l.initial.files) (g.F.Files.held l.files) l.folder.config l.folder.kib l.folder.name.now l.rest l.failings
+
+abbrev pub decreases-loop-rest : goal.decreases-loop-rest
+decreases-loop-rest g l = length l.rest

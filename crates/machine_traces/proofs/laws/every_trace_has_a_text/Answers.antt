@@ -1,5 +1,0 @@
-use Rattle.machine_traces.proofs.MachineTraces.{every_trace_has_a_text}
-use Rattle.machine_traces.proofs.laws.every_trace_has_a_text.Goals as goal
-
-pub returns : goal.returns
-returns c = every_trace_has_a_text

@@ -1,4 +1,0 @@
-pub mod MachineTraces
-pub use Rattle.machine_model.specs.Views
-pub use Rattle.machine_model.specs.LawfulLog
-pub use Rattle.machine_model.specs.Laws

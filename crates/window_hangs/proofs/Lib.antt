@@ -1,0 +1,9 @@
+pub mod Apart
+pub mod Beginnings
+pub mod Endless
+pub mod Following
+pub mod Hanging
+pub mod Placing
+pub mod Positions
+pub mod Seen
+pub mod Walking
