@@ -23,7 +23,7 @@ import time
 
 TOP = pathlib.Path(__file__).resolve().parent.parent
 RVTL = TOP / "crates/rvtl/out/rvtl"
-KEPT = TOP / "crates/gate_comparisons/data"
+KEPT = TOP / "crates/gate_comparisons/data/replayed"
 WIDE, HIGH, DRAWN = 1920, 1000, 1600
 
 # The panel's headings, each with the cells of the rows below it, or the lines of its text.
@@ -216,7 +216,7 @@ def order_differs(tab, text):
 
 def drawing_differs(tab, harts):
     heads = tab.value("[...document.querySelectorAll('#heads text')].map(t => t.textContent)")
-    differs = [f"hart {h} has no lane" for h in range(harts) if f"hart {h}" not in heads and str(h) not in heads]
+    differs = [f"hart {h} has no lane" for h in harts if f"hart {h}" not in heads and str(h) not in heads]
     wide = tab.value("document.getElementById('rows').getBoundingClientRect().width")
     return differs + ([] if 0 < wide <= DRAWN else [f"{wide} pixels wide"]) + [f"overlap: {it}" for it in tab.value(OVERLAPS)[:3]]
 
@@ -252,7 +252,7 @@ def seen_run(tab, name, harts, image, script, shots, room):
         if kind == "end":
             tab.press("End")
             differs += marks_differ(tab)
-        differs += state_differs(tab, image, script, room / "cut") + drawing_differs(tab, harts)
+        differs += state_differs(tab, image, script, room / "cut") + drawing_differs(tab, range(harts))
         tab.shot(shots / f"{name}-{kind}.png")
     tab.value("(() => { const list = document.getElementById('line'); list.selectedIndex = list.options.length > 1 ? 1 : 0; list.dispatchEvent(new Event('change')); })()")
     tab.shot(shots / f"{name}-line.png")
@@ -262,14 +262,16 @@ def seen_run(tab, name, harts, image, script, shots, room):
         differs += [] if f"manager of {options[1].split()[0]}" in heads else [f"{heads}: the manager of {options[1]} has no lane"]
     if image[-1].suffix == ".elf" and not any(len(it.split()) > 1 for it in options[1:]):
         differs.append(f"no line has a name: {options}")
-    return differs + drawing_differs(tab, harts)
+    return differs + drawing_differs(tab, range(harts))
 
 
-def seen_order(tab, name, harts, text, shots):
+def seen_order(tab, name, text, shots):
     """Looks at a trace's page that is open, as it opens and at three operations."""
     differs = order_differs(tab, text)
     tab.shot(shots / f"{name}-opened.png")
     overtaken = any(it.startswith("overtakes ") for it in text)
+    # (of an order there is a lane for each hart that has retired something)
+    retired = sorted({int(it.split()[1].split(":")[0]) for it in text if it.startswith("R ")})
     for kind in ("keys", "search", "end"):
         if kind == "keys":
             tab.press("Home", "ArrowDown", "ArrowDown", "ArrowUp", "ArrowDown")
@@ -281,7 +283,7 @@ def seen_order(tab, name, harts, text, shots):
                 differs.append("nothing is marked as performed out of program order")
         else:
             tab.press("End")
-        differs += order_differs(tab, text) + drawing_differs(tab, harts)
+        differs += order_differs(tab, text) + drawing_differs(tab, retired)
         tab.shot(shots / f"{name}-{kind}.png")
     return differs
 
@@ -289,8 +291,8 @@ def seen_order(tab, name, harts, text, shots):
 def runs(room):
     """Yields harts, length, image with its option, and script."""
     yield 2, "short", [TOP / "examples/store_buffering.elf"], TOP / "examples/store_buffering.script"
-    yield 4, "short", ["--raw", KEPT / "case-057.bin"], KEPT / "case-057.script"
-    yield 8, "short", ["--raw", KEPT / "case-052.bin"], KEPT / "case-052.script"
+    yield 4, "short", ["--raw", KEPT / "random-057-4-harts-64-by-1.bin"], KEPT / "random-057-4-harts-64-by-1.script"
+    yield 8, "short", ["--raw", KEPT / "random-052-8-harts-1-by-4-line-16.bin"], KEPT / "random-052-8-harts-1-by-4-line-16.script"
     yield 2, "long", [TOP / "examples/dekker_fenced.elf"], TOP / "examples/dekker_fenced.script"
     for harts in (4, 8):
         image, journal = TOP / "examples/mcs_lock.elf", room / f"{harts}.script"
@@ -309,7 +311,7 @@ def seen(browser, room, shots):
             for scheme in ("light", "dark"):
                 name, tab = f"{kind}-{harts}-{length}-{scheme}", Tab(browser, scheme)
                 tab.open(page)
-                differs = seen_run(tab, name, harts, image, script, shots, room) if kind == "script" else seen_order(tab, name, harts, text, shots)
+                differs = seen_run(tab, name, harts, image, script, shots, room) if kind == "script" else seen_order(tab, name, text, shots)
                 differs += [f"it warns: {it}" for it in [tab.value("document.getElementById('warn').textContent")] if it] + tab.errors()
                 ground = tab.value("getComputedStyle(document.body).backgroundColor")
                 yield name, differs + ([] if (ground == "rgb(255, 255, 255)") == (scheme == "light") else [f"the ground is {ground}"])
