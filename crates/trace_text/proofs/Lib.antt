@@ -1,7 +1,7 @@
-mod Scripts
+pub mod Scripts
 mod TraceWriting
 mod TraceHeads
-mod TraceLaws
+pub mod TraceLaws
 mod LineSizes
 mod HeadLaws
 mod ImageLaws
