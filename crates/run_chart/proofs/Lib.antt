@@ -4,5 +4,7 @@ pub mod Appending
 pub mod ArrowHeads
 pub mod Escaping
 pub mod Opening
+pub mod Fitted
+pub mod Named
 pub mod Written
 pub mod Pictures

@@ -8,7 +8,10 @@ use Rattle.tl_types.specs.declared.message.Channel.{Channel}
 use Rattle.tl_types.specs.declared.message.Channel.TheVariants.{A, B, C, D, E}
 use Rattle.trace_recorder.specs.declared.logged.Direction.{Direction}
 use Rattle.trace_recorder.specs.declared.logged.Direction.TheVariants.{Sent, Taken}
-use Rattle.trace_text.specs.MessageParts.{heading}
+use Rattle.run_chart.specs.Texts.{heading}
+use Rattle.run_chart.specs.declared.naming.Manner.TheVariants.{Short, Whole}
+use Rattle.elf_symbols.specs.Named.{Named}
+use Rattle.tl_types.specs.declared.line.LineSize.{LineSize}
 use Rattle.run_chart.specs.declared.rows.Posted.{Posted}
 
 abbrev pub channel_number : Channel → ℕ
@@ -49,10 +52,11 @@ abbrev pub message : List Posted → ℕ → Posted → Message
 message ps place p = record { channel = channel_of p.entry.message; hart = p.entry.hart; sent = p.line; taken = taken_on ps place p }
 
 -- an arrow for a message that was sent, with its name, what it is about, and its permissions
-unfoldable pub arrow : Plan → List Posted → ℕ → Posted → List ℕ
-arrow plan ps place p = if is_sent p then shape.arrow plan (message ps place p) (heading p.entry.message) else []
+unfoldable pub arrow : Plan → List Named → LineSize → List Posted → ℕ → Posted → List ℕ
+arrow plan names size ps place p =
+    if is_sent p then shape.arrow plan (message ps place p) (heading Short names size p.entry.message) (heading Whole names size p.entry.message) else []
 
 -- the arrows of those that stand from this place on
-abbrev pub arrows : Plan → List Posted → ℕ → List Posted → List ℕ
-arrows plan ps place [] = []
-arrows plan ps place (p ∷ rest) = arrow plan ps place p ++ arrows plan ps (place + 1) rest
+abbrev pub arrows : Plan → List Named → LineSize → List Posted → ℕ → List Posted → List ℕ
+arrows plan names size ps place [] = []
+arrows plan names size ps place (p ∷ rest) = arrow plan names size ps place p ++ arrows plan names size ps (place + 1) rest

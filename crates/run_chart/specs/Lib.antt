@@ -8,6 +8,8 @@ pub mod Stories
 pub mod Charts
 pub mod Markup
 pub mod Laws
+pub mod Fitting
+pub mod Names
 pub mod Plan
 pub mod Shapes
 pub mod Sheet

@@ -8,8 +8,19 @@ use Rattle.event_stream.specs.Reports.{Report}
 use Rattle.hart.specs.declared.retired.Retired.{Retired}
 use Rattle.machine_types.specs.declared.outcome.Outcome.{Outcome}
 use Rattle.machine_types.specs.declared.outcome.Outcome.TheVariants.{Exited, Stopped}
+use Rattle.rv32_exec.specs.Actions.{addressed}
+use Rattle.rv32_exec.specs.declared.actions.Action.{Action}
 use Rattle.trace_recorder.specs.History.{History, entries_of}
 use Rattle.trace_recorder.specs.declared.operation.OpId.{OpId}
+
+-- what was accessed, where there is an address
+abbrev pub accesses_at : Option ℕ → Action → List Retired → List Note
+accesses_at None action entries = []
+accesses_at (Some a) action entries = map (note.Accessed action) entries
+
+abbrev pub accesses : Option Action → List Retired → List Note
+accesses None entries = []
+accesses (Some action) entries = accesses_at (addressed action) action entries
 
 abbrev pub as_performed : Option Retired → Option Note
 as_performed None = None
@@ -45,6 +56,6 @@ end (Exited code) = Some (note.Exited code)
 end (Stopped code) = Some (note.Stopped code)
 end _ = None
 
--- what retired, or else what was performed; what was put out; the reservation; the hart's end
+-- what retired, and what that accessed, or else what was performed; what was put out; the reservation; the hart's end
 abbrev pub notes : History → Report → Option ℕ → Option ℕ → List Note
-notes t r before now = (((map note.Retired r.entries ++ stores t r.entries r.performed) ++ map note.PutOut r.output) ++ option_to_list (reservation before now)) ++ option_to_list (end r.outcome)
+notes t r before now = ((((map note.Retired r.entries ++ accesses r.action r.entries) ++ stores t r.entries r.performed) ++ map note.PutOut r.output) ++ option_to_list (reservation before now)) ++ option_to_list (end r.outcome)

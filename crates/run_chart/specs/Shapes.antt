@@ -1,12 +1,14 @@
 -- The elements of a chart.
-use Rattle.std.specs.Prelude.{ℕ, ◌+◌, ◌-◌, Bool, true, false, List, [], ◌∷◌, ◌++◌, Option, Some, None, codes, if◌then◌else◌}
+use Rattle.std.specs.Prelude.{ℕ, ◌+◌, ◌-◌, ◌&&◌, Bool, true, false, List, [], ◌∷◌, ◌++◌, Option, Some, None, codes, length, nat_le, if◌then◌else◌}
+use Rattle.std.specs.Str.{bytes_eq}
 use Rattle.tl_types.specs.declared.message.Channel.{Channel}
 use Rattle.tl_types.specs.declared.message.Channel.TheVariants.{A, B, C, D, E}
 use Rattle.run_chart.specs.declared.plan.Plan.{Plan}
 use Rattle.run_chart.specs.declared.shapes.Hold.{Hold}
 use Rattle.run_chart.specs.declared.shapes.Hold.TheVariants.{Nothing, Branch, Trunk, Dirty}
 use Rattle.run_chart.specs.declared.shapes.Message.{Message}
-use Rattle.run_chart.specs.Markup.{element, number_attribute, numbers_attribute, text_attribute}
+use Rattle.run_chart.specs.Fitting.{fitted}
+use Rattle.run_chart.specs.Markup.{closed, element, escaped, number_attribute, numbers_attribute, opened, text_attribute}
 use Rattle.run_chart.specs.Plan as place
 
 abbrev pub hold_class : Hold → List ℕ
@@ -47,6 +49,19 @@ text class at content = element (codes "text")
     (text_attribute (codes "class") class ++ (number_attribute (codes "x") at.0 ++ (number_attribute (codes "y") at.1 ++ [])))
     content
 
+-- a whole text that a browser tells of a short one, under the pointer
+abbrev pub title : List ℕ → List ℕ
+title whole = opened (codes "title") [] ++ (escaped whole ++ codes "</title>")
+
+abbrev pub titled : List ℕ → ℕ × ℕ → List ℕ → List ℕ → List ℕ
+titled class at short whole =
+    opened (codes "text") (text_attribute (codes "class") class ++ (number_attribute (codes "x") at.0 ++ (number_attribute (codes "y") at.1 ++ [])))
+    ++ (escaped short ++ (title whole ++ closed (codes "text")))
+
+-- a short text, cut where there is no room for it, with the whole one, where it is another
+abbrev pub told : List ℕ → ℕ × ℕ → ℕ → List ℕ → List ℕ → List ℕ
+told class at room short whole = if nat_le (length short) room && bytes_eq short whole then text class at short else titled class at (fitted room short) whole
+
 -- an element of corners, x and y in turn
 abbrev pub corners : List ℕ → List ℕ → List ℕ → List ℕ
 corners name class points = element name (text_attribute (codes "class") class ++ (numbers_attribute (codes "points") points ++ [])) []
@@ -63,17 +78,21 @@ lanes p hart =
     core_lane (place.core p hart) (place.bottom p) (48 + hart)
     ++ cache_lane (place.cache p hart) (place.cache_side p hart) (place.bottom p) (48 + hart)
 
-abbrev pub column : Plan → ℕ → ℕ → List ℕ → List ℕ
-column p hart number name = text (codes "address") (place.bar p hart number, 54) name
+abbrev pub column : Plan → ℕ → ℕ → List ℕ → List ℕ → List ℕ
+column p hart number short whole = told (codes "address") (place.bar p hart number, 54) place.column_room short whole
 
 -- a rule across the chart, and a text at its left side
-abbrev pub label : Plan → ℕ → List ℕ → List ℕ
-label p row name =
+abbrev pub label : Plan → ℕ → List ℕ → List ℕ → List ℕ
+label p row short whole =
     line (codes "rule") (0, place.line_top row) (place.width p, place.line_top row)
-    ++ text (codes "label") (6, place.baseline row) name
+    ++ told (codes "label") (6, place.baseline row) place.label_room short whole
 
-abbrev pub note : Plan → ℕ → ℕ → List ℕ → List ℕ
-note p row hart name = text (codes "note") (place.core p hart + 5, place.baseline row) name
+abbrev pub note : Plan → ℕ → ℕ → List ℕ → List ℕ → List ℕ
+note p row hart short whole = told (codes "note") (place.core p hart + 5, place.baseline row) (place.note_room p) short whole
+
+-- a text that ends before the first core's lane
+abbrev pub site : ℕ → List ℕ → List ℕ → List ℕ
+site row short whole = told (codes "site") (280, place.baseline row) place.site_room short whole
 
 abbrev pub bar : Plan → ℕ → ℕ → ℕ × ℕ → Hold → List ℕ
 bar p hart number rows hold =
@@ -118,7 +137,7 @@ abbrev pub downward : Plan → Message → List ℕ
 downward p m = downward_to p m m.taken
 
 -- the arrow, and its label above where it leaves
-abbrev pub arrow : Plan → Message → List ℕ → List ℕ
-arrow p m name =
-    if is_from_cache m.channel then upward p m ++ text (channel_class m.channel) (place.cache_side p m.hart + 5, place.baseline m.sent) name
-    else downward p m ++ text (channel_class m.channel) (place.core p p.harts + 5, place.baseline m.sent) name
+abbrev pub arrow : Plan → Message → List ℕ → List ℕ → List ℕ
+arrow p m short whole =
+    if is_from_cache m.channel then upward p m ++ told (channel_class m.channel) (place.cache_side p m.hart + 5, place.baseline m.sent) (place.message_room p) short whole
+    else downward p m ++ told (channel_class m.channel) (place.core p p.harts + 5, place.baseline m.sent) place.answer_room short whole

@@ -48,6 +48,7 @@ pub record IsStory (image : Initial) (config : Config) (events : List Event) (ad
   pub reached : State
   pub leads : replayed_from 0 (opening image config) events ≡ Replayed.Reached reached
   pub harts_are : story.harts ≡ length reached.trace.statuses
+  pub size_is : story.size ≡ config.line
   pub columns_are : story.columns.items ≡ bars_in config.line address reached
   pub rows_are : map told story.rows.items ≡ rows_to image config events address reached
   pub fits : IsTooLarge image config events address reached → ⊥

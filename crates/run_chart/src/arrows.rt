@@ -4,14 +4,15 @@ ghost use Rattle.std.specs.Option.{ForSome};
 ghost use Rattle.run_chart.specs.Arrows as arrows;
 
 use crate::markup::Markup;
+use crate::messages::spell_heading;
+use crate::naming::{Manner, Naming};
 use crate::plan::Plan;
 use crate::rows::Posted;
-use crate::shapes::{Message, put_arrow};
+use crate::shapes::{Message, Told, put_arrow};
 use std::alloc::AllocError;
 use text_fields::Page;
 use tl_types::Channel;
 use trace_recorder::Direction;
-use trace_text::spell_message;
 
 fn channel_number(channel: Channel) -> u16
     ensures value { result ≡ arrows.channel_number channel }
@@ -107,30 +108,42 @@ fn message_of(posts: &[Posted], place: usize, post: &Posted) -> Message
 fn put_post(
     svg: &mut Markup,
     plan: &Plan,
+    names: &Naming<'_>,
     posts: &[Posted],
     place: usize,
     post: &Posted,
 ) -> Result<(), AllocError>
     requires { place ≤ length posts.now }
-    ensures { OnOk result (svg.new ≡ svg.old ++ arrows.arrow plan.now posts.now place post.now) }
+    ensures { OnOk result (svg.new ≡ svg.old ++ arrows.arrow plan.now names.now.symbols.now names.now.size posts.now place post.now) }
 {
     if !is_sent(post) {
         return Ok(());
     }
-    let mut page = Page::new();
-    spell_message(&mut page, &post.entry.message);
+    let mut short = Page::new();
+    spell_heading(&mut short, names, Manner::Short, &post.entry.message);
+    let mut whole = Page::new();
+    spell_heading(&mut whole, names, Manner::Whole, &post.entry.message);
+    let label = Told {
+        short: short.as_slice(),
+        whole: whole.as_slice(),
+    };
     let message = message_of(posts, place, post);
-    put_arrow(svg, plan, &message, page.as_slice())
+    put_arrow(svg, plan, &message, label)
 }
 
 /// All messages.
-pub(crate) fn put_posts(svg: &mut Markup, plan: &Plan, posts: &[Posted]) -> Result<(), AllocError>
-    ensures { OnOk result (svg.new ≡ svg.old ++ arrows.arrows plan.now posts.now 0 posts.now) }
+pub(crate) fn put_posts(
+    svg: &mut Markup,
+    plan: &Plan,
+    names: &Naming<'_>,
+    posts: &[Posted],
+) -> Result<(), AllocError>
+    ensures { OnOk result (svg.new ≡ svg.old ++ arrows.arrows plan.now names.now.symbols.now names.now.size posts.now 0 posts.now) }
 {
     let mut place = 0;
     let mut rest = posts;
     while let [post, tail @ ..] = rest {
-        put_post(svg, plan, posts, place, post)?;
+        put_post(svg, plan, names, posts, place, post)?;
         place += 1;
         rest = tail;
     }

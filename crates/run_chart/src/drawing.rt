@@ -8,67 +8,163 @@ ghost use Rattle.run_chart.specs.Picture.{IsPicture};
 use crate::arrows::put_posts;
 use crate::bars::{Place, bottom, put_bars};
 use crate::markup::Markup;
+use crate::naming::{Manner, Naming, spell_address, spell_line};
 use crate::plan::Plan;
 use crate::rows::{Noted, Posted, Row, Story};
-use crate::shapes::{put_column, put_label, put_lanes, put_note};
+use crate::shapes::{Told, put_column, put_label, put_lanes, put_note, put_site};
 use crate::sheet::{close, open};
-use crate::texts::{spell_description, spell_note, spell_row, spell_title};
+use crate::texts::{site_of, spell_description, spell_note, spell_row, spell_title};
+use elf_symbols::Symbols;
 use std::alloc::{AllocError, Global};
 use text_fields::Page;
 
-#[tactic(auto, unfolding(crate::specs::Picture::noted))]
-fn put_noted(svg: &mut Markup, plan: &Plan, hart: u8, noted: &Noted) -> Result<(), AllocError>
-    ensures { OnOk result (svg.new ≡ svg.old ++ picture.noted plan.now hart noted.now) }
+/// Where the instruction lies of which a note tells, if it tells of one.
+#[tactic(auto, unfolding(crate::specs::Picture::site))]
+fn put_site_of(
+    svg: &mut Markup,
+    names: &Naming<'_>,
+    line: u16,
+    site: Option<u32>,
+) -> Result<(), AllocError>
+    ensures { OnOk result (svg.new ≡ svg.old ++ picture.site names.now.symbols.now line site) }
 {
-    let mut page = Page::new();
-    spell_note(&mut page, &noted.note);
-    put_note(svg, plan, noted.line as u64, hart, page.as_slice())
+    let Some(pc) = site else {
+        return Ok(());
+    };
+    let mut short = Page::new();
+    spell_address(&mut short, names, Manner::Short, pc);
+    let mut whole = Page::new();
+    spell_address(&mut whole, names, Manner::Whole, pc);
+    let text = Told {
+        short: short.as_slice(),
+        whole: whole.as_slice(),
+    };
+    put_site(svg, line as u64, text)
 }
 
-fn put_notes(svg: &mut Markup, plan: &Plan, hart: u8, notes: &[Noted]) -> Result<(), AllocError>
-    ensures { OnOk result (svg.new ≡ svg.old ++ flat_map (picture.noted plan.now hart) notes.now) }
+fn put_note_text(
+    svg: &mut Markup,
+    plan: &Plan,
+    names: &Naming<'_>,
+    hart: u8,
+    noted: &Noted,
+) -> Result<(), AllocError>
+    ensures { OnOk result (svg.new ≡ svg.old ++ picture.note_text plan.now names.now.symbols.now hart noted.now) }
+{
+    let mut short = Page::new();
+    spell_note(&mut short, names, Manner::Short, &noted.note);
+    let mut whole = Page::new();
+    spell_note(&mut whole, names, Manner::Whole, &noted.note);
+    let text = Told {
+        short: short.as_slice(),
+        whole: whole.as_slice(),
+    };
+    put_note(svg, plan, noted.line as u64, hart, text)
+}
+
+/// What the core did, and at the left side where the instruction lies.
+#[tactic(auto, unfolding(crate::specs::Picture::noted))]
+fn put_noted(
+    svg: &mut Markup,
+    plan: &Plan,
+    names: &Naming<'_>,
+    hart: u8,
+    noted: &Noted,
+) -> Result<(), AllocError>
+    ensures { OnOk result (svg.new ≡ svg.old ++ picture.noted plan.now names.now.symbols.now hart noted.now) }
+{
+    put_note_text(svg, plan, names, hart, noted)?;
+    put_site_of(svg, names, noted.line, site_of(&noted.note))
+}
+
+fn put_notes(
+    svg: &mut Markup,
+    plan: &Plan,
+    names: &Naming<'_>,
+    hart: u8,
+    notes: &[Noted],
+) -> Result<(), AllocError>
+    ensures { OnOk result (svg.new ≡ svg.old ++ flat_map (picture.noted plan.now names.now.symbols.now hart) notes.now) }
 {
     for noted in notes {
-        put_noted(svg, plan, hart, noted)?;
+        put_noted(svg, plan, names, hart, noted)?;
     }
     Ok(())
 }
 
-/// The event at the left side, and what the core did.
-#[tactic(auto, unfolding(crate::specs::Picture::row))]
-fn put_row(svg: &mut Markup, plan: &Plan, row: &Row) -> Result<(), AllocError>
-    ensures { OnOk result (svg.new ≡ svg.old ++ picture.row plan.now row.now) }
+/// The event at the left side.
+fn put_event(svg: &mut Markup, plan: &Plan, names: &Naming<'_>, row: &Row) -> Result<(), AllocError>
+    ensures { OnOk result (svg.new ≡ svg.old ++ picture.event_text plan.now names.now.symbols.now names.now.size row.now) }
 {
-    let mut page = Page::new();
-    spell_row(&mut page, row);
-    put_label(svg, plan, row.line as u64, page.as_slice())?;
-    put_notes(svg, plan, row.hart, row.notes.as_slice())
+    let mut short = Page::new();
+    spell_row(&mut short, names, Manner::Short, row);
+    let mut whole = Page::new();
+    spell_row(&mut whole, names, Manner::Whole, row);
+    let text = Told {
+        short: short.as_slice(),
+        whole: whole.as_slice(),
+    };
+    put_label(svg, plan, row.line as u64, text)
 }
 
-fn put_rows(svg: &mut Markup, plan: &Plan, rows: &[Row]) -> Result<(), AllocError>
-    ensures { OnOk result (svg.new ≡ svg.old ++ flat_map (picture.row plan.now) rows.now) }
+/// The event, and what the core did.
+#[tactic(auto, unfolding(crate::specs::Picture::row))]
+fn put_row(svg: &mut Markup, plan: &Plan, names: &Naming<'_>, row: &Row) -> Result<(), AllocError>
+    ensures { OnOk result (svg.new ≡ svg.old ++ picture.row plan.now names.now.symbols.now names.now.size row.now) }
+{
+    put_event(svg, plan, names, row)?;
+    put_notes(svg, plan, names, row.hart, row.notes.as_slice())
+}
+
+fn put_rows(
+    svg: &mut Markup,
+    plan: &Plan,
+    names: &Naming<'_>,
+    rows: &[Row],
+) -> Result<(), AllocError>
+    ensures { OnOk result (svg.new ≡ svg.old ++ flat_map (picture.row plan.now names.now.symbols.now names.now.size) rows.now) }
 {
     for row in rows {
-        put_row(svg, plan, row)?;
+        put_row(svg, plan, names, row)?;
     }
     Ok(())
 }
 
-/// The name of a line of memory above its bars, and the bars.
+/// The name of a line of memory above its bars.
+fn put_head(
+    svg: &mut Markup,
+    plan: &Plan,
+    names: &Naming<'_>,
+    place: Place,
+) -> Result<(), AllocError>
+    requires { place.column ≤ 1048576 }
+    ensures { OnOk result (svg.new ≡ svg.old ++ picture.head plan.now names.now.symbols.now names.now.size place) }
+{
+    let mut short = Page::new();
+    spell_line(&mut short, names, Manner::Short, place.line);
+    let mut whole = Page::new();
+    spell_line(&mut whole, names, Manner::Whole, place.line);
+    let text = Told {
+        short: short.as_slice(),
+        whole: whole.as_slice(),
+    };
+    put_column(svg, plan, place.hart, place.column, text)
+}
+
+/// The name, and the bars.
 #[tactic(auto, unfolding(crate::specs::Picture::place))]
 fn put_place(
     svg: &mut Markup,
     plan: &Plan,
+    names: &Naming<'_>,
     place: Place,
     rows: &[Row],
     end: u16,
 ) -> Result<(), AllocError>
     requires { place.column ≤ 1048576 }
-    ensures { OnOk result (svg.new ≡ svg.old ++ picture.place plan.now place end rows.now) }
+    ensures { OnOk result (svg.new ≡ svg.old ++ picture.place plan.now names.now.symbols.now names.now.size place end rows.now) }
 {
-    let mut page = Page::new();
-    page.word(place.line);
-    put_column(svg, plan, place.hart, place.column, page.as_slice())?;
+    put_head(svg, plan, names, place)?;
     put_bars(svg, plan, place, rows, end)
 }
 
@@ -76,13 +172,14 @@ fn put_place(
 fn put_columns(
     svg: &mut Markup,
     plan: &Plan,
+    names: &Naming<'_>,
     hart: u8,
     columns: &[u32],
     rows: &[Row],
     end: u16,
 ) -> Result<(), AllocError>
     requires { length columns.now ≤ 1048576 }
-    ensures { OnOk result (svg.new ≡ svg.old ++ picture.columns plan.now hart end rows.now 0 columns.now) }
+    ensures { OnOk result (svg.new ≡ svg.old ++ picture.columns plan.now names.now.symbols.now names.now.size hart end rows.now 0 columns.now) }
 {
     let mut column = 0;
     let mut rest = columns;
@@ -92,7 +189,7 @@ fn put_columns(
             line: *line,
             column,
         };
-        put_place(svg, plan, place, rows, end)?;
+        put_place(svg, plan, names, place, rows, end)?;
         column += 1;
         rest = tail;
     }
@@ -101,15 +198,22 @@ fn put_columns(
 
 /// A hart's lanes, and what its cache holds.
 #[tactic(auto, unfolding(crate::specs::Picture::hart))]
-fn put_hart(svg: &mut Markup, plan: &Plan, story: &Story, hart: u8) -> Result<(), AllocError>
+fn put_hart(
+    svg: &mut Markup,
+    plan: &Plan,
+    names: &Naming<'_>,
+    story: &Story,
+    hart: u8,
+) -> Result<(), AllocError>
     requires { hart < 8 }
-    ensures { OnOk result (svg.new ≡ svg.old ++ picture.hart plan.now story.now hart) }
+    ensures { OnOk result (svg.new ≡ svg.old ++ picture.hart plan.now names.now.symbols.now names.now.size story.now hart) }
 {
     put_lanes(svg, plan, hart)?;
     let rows = story.rows.as_slice();
     put_columns(
         svg,
         plan,
+        names,
         hart,
         story.columns.as_slice(),
         rows,
@@ -117,11 +221,16 @@ fn put_hart(svg: &mut Markup, plan: &Plan, story: &Story, hart: u8) -> Result<()
     )
 }
 
-fn put_harts(svg: &mut Markup, plan: &Plan, story: &Story) -> Result<(), AllocError>
-    ensures { OnOk result (svg.new ≡ svg.old ++ picture.harts plan.now story.now story.now.harts) }
+fn put_harts(
+    svg: &mut Markup,
+    plan: &Plan,
+    names: &Naming<'_>,
+    story: &Story,
+) -> Result<(), AllocError>
+    ensures { OnOk result (svg.new ≡ svg.old ++ picture.harts plan.now names.now.symbols.now names.now.size story.now story.now.harts) }
 {
     for hart in 0..story.harts {
-        put_hart(svg, plan, story, hart)?;
+        put_hart(svg, plan, names, story, hart)?;
     }
     Ok(())
 }
@@ -163,15 +272,25 @@ fn opened(alloc: Global, story: &Story, plan: &Plan, style: &[u8]) -> Result<Mar
 
 /// The picture of a run, as an SVG document: a lane for each hart's core, one for its cache and one for the
 /// manager, a row for each event, bars for what the caches hold, and an arrow for each message that was
-/// sent, to where it was taken, or dashed to the bottom; in this style (`run_chart::STYLE`).
-pub fn draw(alloc: Global, story: &Story, style: &[u8]) -> Result<Vec<u8>, AllocError>
-    ensures { IfOk result (λ bytes. IsPicture story.now style.now bytes.items) }
+/// sent, to where it was taken, or dashed to the bottom; with these names for addresses, in this style
+/// (`run_chart::STYLE`).
+pub fn draw(
+    alloc: Global,
+    story: &Story,
+    symbols: &Symbols,
+    style: &[u8],
+) -> Result<Vec<u8>, AllocError>
+    ensures { IfOk result (λ bytes. IsPicture symbols.now story.now style.now bytes.items) }
 {
+    let names = Naming {
+        symbols,
+        size: story.size,
+    };
     let plan = plan_of(story);
     let mut svg = opened(alloc, story, &plan, style)?;
-    put_harts(&mut svg, &plan, story)?;
-    put_rows(&mut svg, &plan, story.rows.as_slice())?;
+    put_harts(&mut svg, &plan, &names, story)?;
+    put_rows(&mut svg, &plan, &names, story.rows.as_slice())?;
     let posts = posts_of(alloc, story.rows.as_slice())?;
-    put_posts(&mut svg, &plan, posts.as_slice())?;
+    put_posts(&mut svg, &plan, &names, posts.as_slice())?;
     close(svg)
 }

@@ -206,6 +206,7 @@ fn gather_all(
     let rows = rows_of(alloc, &scope, image, config, events)?;
     Ok(Story {
         harts,
+        size,
         columns,
         rows,
     })

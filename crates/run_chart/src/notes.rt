@@ -5,12 +5,14 @@ ghost use Rattle.std.specs.Option.{option_to_list};
 ghost use Rattle.run_chart.specs.declared.rows.Note.TheVariants as note;
 ghost use Rattle.event_stream.specs.Telling.{report_of};
 ghost use Rattle.run_chart.specs.Notes as notes;
+ghost use Rattle.rv32_exec.specs.Actions.{addressed};
 ghost use Rattle.trace_recorder.specs.History.{entries_of};
 
 use crate::rows::Note;
 use event_stream::Report;
 use hart::Retired;
 use machine_types::Outcome;
+use rv32_exec::Action;
 use std::alloc::{AllocError, Global};
 use trace_recorder::{OpId, Trace};
 
@@ -36,6 +38,41 @@ fn add_retired(list: &mut Vec<Note>, entries: &[Retired]) -> Result<(), AllocErr
         rest = tail;
     }
     Ok(())
+}
+
+fn add_accessed(list: &mut Vec<Note>, action: Action, entries: &[Retired]) -> Result<(), AllocError>
+    ensures { OnOk result (list.new.items ≡ list.old.items ++ map (note.Accessed action) entries.now) }
+{
+    let mut rest = entries;
+    while let [entry, tail @ ..] = rest {
+        list.push(Note::Accessed(action, *entry))?;
+        rest = tail;
+    }
+    Ok(())
+}
+
+/// The access of what retired, if it was to access memory.
+fn add_access(list: &mut Vec<Note>, action: Action, entries: &[Retired]) -> Result<(), AllocError>
+    ensures { OnOk result (list.new.items ≡ list.old.items ++ notes.accesses_at (addressed action) action entries.now) }
+{
+    match action.address() {
+        Some(_) => add_accessed(list, action, entries),
+        None => Ok(()),
+    }
+}
+
+/// The same, where it is known what it was to do.
+fn add_accesses(
+    list: &mut Vec<Note>,
+    action: Option<Action>,
+    entries: &[Retired],
+) -> Result<(), AllocError>
+    ensures { OnOk result (list.new.items ≡ list.old.items ++ notes.accesses action entries.now) }
+{
+    match action {
+        Some(action) => add_access(list, action, entries),
+        None => Ok(()),
+    }
 }
 
 /// The instruction that gave an operation, if it is there.
@@ -158,6 +195,7 @@ pub(crate) fn notes_of(
 {
     let mut list = Vec::new(alloc);
     add_retired(&mut list, report.entries)?;
+    add_accesses(&mut list, report.action, report.entries)?;
     add_stores(&mut list, trace, report.entries, report.performed)?;
     add_output(&mut list, report.output)?;
     add(&mut list, reservation(before, now))?;

@@ -5,6 +5,8 @@ ghost use Rattle.machine_types.specs.declared.limits.TheConstants.{MAX_HARTS};
 use crate::shapes::Hold;
 use hart::Retired;
 use machine_types::{Event, Outcome};
+use rv32_exec::Action;
+use tl_types::LineSize;
 use trace_recorder::Logged;
 
 /// Something that a hart's core did.
@@ -12,6 +14,8 @@ use trace_recorder::Logged;
 pub enum Note {
     /// An instruction retired.
     Retired(Retired),
+    /// It accessed memory, as the instruction that retired was to do.
+    Accessed(Action, Retired),
     /// A store that had waited was performed.
     Performed(Retired),
     /// A number was put out.
@@ -67,10 +71,12 @@ pub struct Row {
     pub copies: Vec<Copied>,
 }
 
-/// A run: its harts, the lines of memory that have a bar in each cache's lane, and its rows in their order.
+/// A run: its harts, how large a line of memory is, the lines that have a bar in each cache's lane, and its rows
+/// in their order.
 #[derive(Drop)]
 pub struct Story {
     pub harts: u8,
+    pub size: LineSize,
     pub columns: Vec<u32>,
     pub rows: Vec<Row>,
     ghost few_harts: { harts ≤ MAX_HARTS },

@@ -1,10 +1,13 @@
 //! What a chart is made of: lanes, labels, notes, bars and arrows.
 ghost use Rattle.std.specs.Prelude.{◌≡◌, ◌<◌, ◌≤◌, ◌^◌, ◌++◌, OnOk};
 ghost use Rattle.std.specs.Option.{ForSome};
+ghost use Rattle.run_chart.specs.Fitting.{fitted};
+ghost use Rattle.run_chart.specs.Markup.{escaped};
 ghost use Rattle.run_chart.specs.Shapes as shape;
 
+use crate::fitting::fitted;
 use crate::markup::{Attribute, Markup};
-use crate::plan::Plan;
+use crate::plan::{ANSWER_ROOM, COLUMN_ROOM, LABEL_ROOM, Plan, SITE_ROOM};
 use std::alloc::AllocError;
 use tl_types::Channel;
 
@@ -119,6 +122,73 @@ pub(crate) fn put_text(
     )
 }
 
+/// A text as there is mostly room for it, and whole.
+#[derive(Clone, Copy)]
+pub(crate) struct Told<'a> {
+    pub short: &'a [u8],
+    pub whole: &'a [u8],
+}
+
+/// What a browser tells of a text, under the pointer.
+fn put_title(svg: &mut Markup, whole: &[u8]) -> Result<(), AllocError>
+    ensures { OnOk result (svg.new ≡ svg.old ++ shape.title whole.now) }
+{
+    svg.open(b"title", &[])?;
+    svg.text(whole)?;
+    svg.verbatim(b"</title>")
+}
+
+/// A text in two pieces.
+fn put_pieces(svg: &mut Markup, front: &[u8], end: &[u8]) -> Result<(), AllocError>
+    ensures { OnOk result (svg.new ≡ svg.old ++ escaped (front.now ++ end.now)) }
+{
+    svg.text(front)?;
+    svg.text(end)
+}
+
+/// A text, cut where there is no room for it, and the whole one.
+fn put_titled(
+    svg: &mut Markup,
+    class: &[u8],
+    at: (u64, u64),
+    room: usize,
+    text: Told<'_>,
+) -> Result<(), AllocError>
+    requires { 3 ≤ room }
+    ensures { OnOk result (svg.new ≡ svg.old ++ shape.titled class.now at (fitted room text.entry.short.now) text.entry.whole.now) }
+{
+    svg.open(
+        b"text",
+        &[
+            Attribute::text(b"class", class),
+            Attribute::number(b"x", at.0),
+            Attribute::number(b"y", at.1),
+        ],
+    )?;
+    let (front, end) = fitted(text.short, room);
+    put_pieces(svg, front, end)?;
+    put_title(svg, text.whole)?;
+    svg.close(b"text")
+}
+
+/// A text that has room for so many bytes; where that doesn't tell all, with a title.
+fn put_told(
+    svg: &mut Markup,
+    class: &[u8],
+    at: (u64, u64),
+    room: usize,
+    text: Told<'_>,
+) -> Result<(), AllocError>
+    requires { 3 ≤ room }
+    ensures { OnOk result (svg.new ≡ svg.old ++ shape.told class.now at room text.entry.short.now text.entry.whole.now) }
+{
+    if text.short.len() <= room && text.short == text.whole {
+        put_text(svg, class, at, text.short)
+    } else {
+        put_titled(svg, class, at, room, text)
+    }
+}
+
 fn put_corners(
     svg: &mut Markup,
     name: &[u8],
@@ -174,42 +244,56 @@ pub fn put_lanes(svg: &mut Markup, plan: &Plan, hart: u8) -> Result<(), AllocErr
 }
 
 /// The name of a line of memory above its bar.
-pub fn put_column(
+pub(crate) fn put_column(
     svg: &mut Markup,
     plan: &Plan,
     hart: u8,
     column: u64,
-    text: &[u8],
+    text: Told<'_>,
 ) -> Result<(), AllocError>
     requires { column ≤ 1048576 }
-    ensures { OnOk result (svg.new ≡ svg.old ++ shape.column plan.now hart column text.now) }
+    ensures { OnOk result (svg.new ≡ svg.old ++ shape.column plan.now hart column text.entry.short.now text.entry.whole.now) }
 {
-    put_text(svg, b"address", (plan.bar(hart as u64, column), 54), text)
+    let place = (plan.bar(hart as u64, column), 54);
+    put_told(svg, b"address", place, COLUMN_ROOM, text)
 }
 
 /// The row of an event begins on this line.
-pub fn put_label(svg: &mut Markup, plan: &Plan, line: u64, text: &[u8]) -> Result<(), AllocError>
+pub(crate) fn put_label(
+    svg: &mut Markup,
+    plan: &Plan,
+    line: u64,
+    text: Told<'_>,
+) -> Result<(), AllocError>
     requires { line ≤ 1048576 }
-    ensures { OnOk result (svg.new ≡ svg.old ++ shape.label plan.now line text.now) }
+    ensures { OnOk result (svg.new ≡ svg.old ++ shape.label plan.now line text.entry.short.now text.entry.whole.now) }
 {
     let top = Plan::line_top(line);
     put_line(svg, b"rule", (0, top), (plan.width(), top))?;
-    put_text(svg, b"label", (6, Plan::baseline(line)), text)
+    put_told(svg, b"label", (6, Plan::baseline(line)), LABEL_ROOM, text)
 }
 
 /// What a hart's core did.
-pub fn put_note(
+pub(crate) fn put_note(
     svg: &mut Markup,
     plan: &Plan,
     line: u64,
     hart: u8,
-    text: &[u8],
+    text: Told<'_>,
 ) -> Result<(), AllocError>
     requires { line ≤ 1048576 }
-    ensures { OnOk result (svg.new ≡ svg.old ++ shape.note plan.now line hart text.now) }
+    ensures { OnOk result (svg.new ≡ svg.old ++ shape.note plan.now line hart text.entry.short.now text.entry.whole.now) }
 {
     let place = (plan.core(hart as u64) + 5, Plan::baseline(line));
-    put_text(svg, b"note", place, text)
+    put_told(svg, b"note", place, plan.note_room(), text)
+}
+
+/// Where the instruction lies that a core retired or performed.
+pub(crate) fn put_site(svg: &mut Markup, line: u64, text: Told<'_>) -> Result<(), AllocError>
+    requires { line ≤ 1048576 }
+    ensures { OnOk result (svg.new ≡ svg.old ++ shape.site line text.entry.short.now text.entry.whole.now) }
+{
+    put_told(svg, b"site", (280, Plan::baseline(line)), SITE_ROOM, text)
 }
 
 /// What a hart's cache holds of a line of memory, from one line to another.
@@ -312,25 +396,25 @@ fn put_downward(svg: &mut Markup, plan: &Plan, message: &Message) -> Result<(), 
 
 /// A message's arrow, from where it was sent to where it was taken, dashed to the bottom where it never
 /// was; and its label beside the arrow's start.
-pub fn put_arrow(
+pub(crate) fn put_arrow(
     svg: &mut Markup,
     plan: &Plan,
     message: &Message,
-    label: &[u8],
+    label: Told<'_>,
 ) -> Result<(), AllocError>
     requires sent { message.now.sent ≤ 1048576 }
     requires taken { ForSome message.now.taken (λ t. t ≤ 1048576) }
-    ensures { OnOk result (svg.new ≡ svg.old ++ shape.arrow plan.now message.now label.now) }
+    ensures { OnOk result (svg.new ≡ svg.old ++ shape.arrow plan.now message.now label.entry.short.now label.entry.whole.now) }
 {
     let y = Plan::baseline(message.sent);
     let class = channel_class(message.channel);
     if message.is_from_cache() {
         put_upward(svg, plan, message)?;
         let x = plan.cache_side(message.hart as u64) + 5;
-        put_text(svg, class, (x, y), label)
+        put_told(svg, class, (x, y), plan.message_room(), label)
     } else {
         put_downward(svg, plan, message)?;
         let x = plan.core(plan.harts) + 5;
-        put_text(svg, class, (x, y), label)
+        put_told(svg, class, (x, y), ANSWER_ROOM, label)
     }
 }

@@ -15,7 +15,8 @@ svg{--ground:#fff;--ink:#1b1f24;--faint:#6e7781;--rule:#e4e8ec;--hold:#57606a;--
 --trunk:#3fb950;--dirty:#ff7b72;--a:#6cb6ff;--b:#f0a04b;--c:#c297ff;--d:#57d364;--e:#ff7eb6}}
 text{font:10px 'DejaVu Sans Mono',Menlo,Consolas,monospace;fill:var(--ink);white-space:pre}
 text.head{font-weight:bold}
-text.label,text.address{fill:var(--faint)}
+text.label,text.address,text.site{fill:var(--faint)}
+text.site{text-anchor:end}
 text.address{writing-mode:vertical-rl}
 rect.ground{fill:var(--ground)}
 line.lane{stroke:var(--faint)}

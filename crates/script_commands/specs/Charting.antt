@@ -5,6 +5,7 @@ use Rattle.event_stream.specs.TheVariants as refusals
 use Rattle.command_files.specs.Faults.{IsReplayFault, Name}
 use Rattle.command_files.specs.Files.{HoldsImage, HoldsScript, IsTheScriptIn}
 use Rattle.command_files.specs.Contents.{Contents}
+use Rattle.command_files.specs.Named.{HoldsNamedImage}
 use Rattle.command_files.specs.Sizes.{config_of}
 use Rattle.command_files.specs.Status.{IsOutOfMemory}
 use Rattle.event_stream.specs.Lines.{script_line_of}
@@ -12,6 +13,7 @@ use Rattle.command_files.specs.declared.fault.Fault.{Fault}
 use Rattle.command_files.specs.declared.fault.Fault.TheVariants.{BadAddress, CannotWrite, Event, OutOfMemory, TooManyRows}
 use Rattle.command_settings.specs.declared.wanted.Replay.{Replay}
 use Rattle.elf_loader.specs.Image.{Initial}
+use Rattle.elf_symbols.specs.Named.{Named}
 use Rattle.event_stream.specs.ApplyError.{ApplyError}
 use Rattle.run_chart.specs.Charts.{IsBegun, IsDrawn}
 use Rattle.run_chart.specs.Stories.{IsOverfull}
@@ -32,26 +34,28 @@ abbrev pub IsNoAddress : Option Name → Fault → Type 0
 IsNoAddress None fault = ⊥
 IsNoAddress (Some word) fault = (address word.now ≡ None) × (fault ≡ BadAddress word)
 
--- what was appended is the picture, in the colours and patterns of `STYLE`, of what the script in the one file does with the image in the other
+-- what was appended is the picture, in the colours and patterns of `STYLE`, of what the script in the one file does with the image in the other, with the names in that file
 pub record IsCharted (held : Contents) (replay : Replay) (line : Option Name) (old new : Option (List ℕ)) : Type 0 where
   pub script : Script
   pub image : Initial
+  pub names : List Named
   pub address : Option ℕ
   pub script_file : HoldsScript held replay.script.now script
-  pub image_file : HoldsImage held replay.raw replay.image.now script.kib image
+  pub image_file : HoldsNamedImage held replay.raw replay.image.now script.kib image names
   pub only : IsTheScriptIn held replay.script.now script
   pub named : IsAddress line address
-  pub drawn : IsDrawn image (config_of script replay.model) script.events address STYLE.now old new
+  pub drawn : IsDrawn names image (config_of script replay.model) script.events address STYLE.now old new
 
 -- a beginning of that picture was appended, where the output took no more
 pub record IsPictureCutOff (held : Contents) (replay : Replay) (line : Option Name) (old new : Option (List ℕ)) : Type 0 where
   pub script : Script
   pub image : Initial
+  pub names : List Named
   pub address : Option ℕ
   pub script_file : HoldsScript held replay.script.now script
-  pub image_file : HoldsImage held replay.raw replay.image.now script.kib image
+  pub image_file : HoldsNamedImage held replay.raw replay.image.now script.kib image names
   pub named : IsAddress line address
-  pub begun : IsBegun image (config_of script replay.model) script.events address STYLE.now old new
+  pub begun : IsBegun names image (config_of script replay.model) script.events address STYLE.now old new
 
 -- the picture of what the script in the one file does with the image in the other would be too large
 pub record IsNotDrawable (held : Contents) (replay : Replay) (line : Option Name) : Type 0 where

@@ -4,4 +4,4 @@ use Rattle.run_chart.specs.Picture.{row}
 use Rattle.run_chart.proofs.drawing.put_rows.Given as goal
 
 abbrev pub invariant-loop-row : goal.invariant-loop-row
-invariant-loop-row l = l.svg ≡ l.initial.svg ++ flat_map (row l.plan) (take l.row-index l.rows)
+invariant-loop-row l = l.svg ≡ l.initial.svg ++ flat_map (row l.plan l.names.symbols.now l.names.size) (take l.row-index l.rows)

@@ -1,4 +1,4 @@
-use Rattle.std.proofs.Common.{rules, ◌≡◌, subst}
+use Rattle.std.proofs.Common.{rules, ◌≡◌, refl, subst}
 use Rattle.elf_loader.specs.Image.{Initial}
 use Rattle.machine_model.specs.Views.{opening}
 use Rattle.run_chart.proofs.Limits.{given_up, overfull, overfull_bars, untold_is}
@@ -24,6 +24,7 @@ returns-clause-told c = record {
   reached = c.in_ok-machine.machine;
   leads = c.in_ok-machine.ensures.ok;
   harts_are = search rules;
+  size_is = refl;
   columns_are = search rules;
   rows_are = search rules;
   fits = search rules;
