@@ -14,14 +14,13 @@ use Rattle.std.specs.declared.alloc.AllocError.{AllocError}
 use Rattle.fence_audit.specs.declared.searches.Asking.{Asking}
 use Rattle.fence_audit.specs.Searches.{AreSearched, Grows, IsAsked, answer_in, are_same, is_of, search_in}
 use Rattle.architecture_outcomes.specs.declared.architecture.Architecture.{Architecture}
-use Rattle.architecture_outcomes.specs.declared.outcome.Outcome.{Outcome}
 use Rattle.fence_audit.specs.declared.allowing.Allowance.TheVariants.{Broken, Kept}
 use Rattle.fence_audit.specs.declared.allowing.Missing.{Missing}
 use Rattle.fence_audit.specs.declared.answers.Answer.{Answer}
 use Rattle.fence_audit.specs.declared.auditing.Audit.{Audit}
 use Rattle.fence_audit.specs.declared.auditing.Parts.{Parts}
 use Rattle.machine_types.specs.declared.config.Config.{Config}
-use Rattle.fence_audit.specs.declared.answers.Answer.TheVariants.{Bounded, Fewer, Other, Same}
+use Rattle.fence_audit.specs.declared.answers.Answer.TheVariants.{Bounded, Fewer, Other, Same, Stops}
 use Rattle.fence_audit.specs.declared.searches.Search.{Search}
 use Rattle.fence_audit.specs.declared.searches.World.{World}
 use Rattle.image_orderings.proofs.Variants.{variant_of_variant}
@@ -202,6 +201,7 @@ reduction asking orderings own last last' first second third all alone one weigh
 pub same_of : (answer : Answer) (b : Bool) → b ≡ is_enough answer → b ≡ true → answer ≡ Same
 same_of Same b is so = refl
 same_of (Other place) b is so = absurd (false≢true (sym is ∙ so))
+same_of (Stops place) b is so = absurd (false≢true (sym is ∙ so))
 same_of (Fewer place) b is so = absurd (false≢true (sym is ∙ so))
 same_of Bounded b is so = absurd (false≢true (sym is ∙ so))
 
@@ -210,6 +210,8 @@ pub not_enough : (searches : List Search) (patches : List Patch) (answer : Answe
 not_enough searches patches Same b asked is other same = false≢true (sym other ∙ is)
 not_enough searches patches (Other place) b asked is other same =
     let bad : Some (Other place) ≡ Some Same = sym asked ∙ same in cc
+not_enough searches patches (Stops place) b asked is other same =
+    let bad : Some (Stops place) ≡ Some Same = sym asked ∙ same in cc
 not_enough searches patches (Fewer place) b asked is other same =
     let bad : Some (Fewer place) ≡ Some Same = sym asked ∙ same in cc
 not_enough searches patches Bounded b asked is other same =
@@ -250,16 +252,11 @@ module _ (world : World) (image : Initial) (config : Config) (addresses : List �
       (record { world_is = refl; known = found; parts = subst (λ (b : Bool). ArePartsOf world image config addresses window limit answers b parts) is are })
 
   -- beside its own outcomes
-  pub audited_as : (known : Architecture) (outcomes : List Outcome) (parts : Parts) (audit : Audit) (whole : Bool) → outcomes ≡ known.outcomes.items → IsSearchIn world image config addresses window limit known
-      → ArePartsOf world image config addresses window limit (answer_as outcomes) whole parts → whole ≡ is_whole known → audit ≡ audit_with world known parts → IsAudit world image config addresses window limit audit
-  audited_as known outcomes parts audit whole same found are is made =
+  pub audited_as : (known : Architecture) (parts : Parts) (audit : Audit) (whole : Bool) → IsSearchIn world image config addresses window limit known
+      → ArePartsOf world image config addresses window limit (answer_as known) whole parts → whole ≡ is_whole known → audit ≡ audit_with world known parts → IsAudit world image config addresses window limit audit
+  audited_as known parts audit whole found are is made =
       subst (IsAudit world image config addresses window limit) (sym made)
-      (record {
-        world_is = refl;
-        known = found;
-        parts = subst (λ (xs : List Outcome). ArePartsOf world image config addresses window limit (answer_as xs) (is_whole known) parts) same
-            (subst (λ (b : Bool). ArePartsOf world image config addresses window limit (answer_as outcomes) b parts) is are);
-      })
+      (record { world_is = refl; known = found; parts = subst (λ (b : Bool). ArePartsOf world image config addresses window limit (answer_as known) b parts) is are })
 
   -- and beside what is allowed
   pub kept : (answers : Architecture → Answer) (known : Architecture) (parts : Parts) (audit : Audit) (whole : Bool) → refused_place (answers known) ≡ None → IsSearchIn world image config addresses window limit known

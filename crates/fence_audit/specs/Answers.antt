@@ -8,13 +8,18 @@ use Rattle.allowed_outcomes.specs.Known.{allows_line}
 use Rattle.architecture_outcomes.specs.ExplorerOutcomes.{HasEachEnd}
 use Rattle.architecture_outcomes.specs.Outcomes.{IsDecided, IsMachine, IsWitnessed, TellsEachEnd, end_of, ends_of, tells}
 use Rattle.architecture_outcomes.specs.declared.architecture.Architecture.{Architecture}
+use Rattle.architecture_outcomes.specs.declared.failing.Failing.{Failing}
 use Rattle.architecture_outcomes.specs.declared.outcome.Outcome.{Outcome}
+use Rattle.architecture_outcomes.specs.Failings.{HasEachFailure, IsShown, failures_in}
+use Rattle.architecture_outcomes.specs.FailingRuns.{TellsEachFailing}
+use Rattle.architecture_outcomes.specs.Failure.{Failure}
+use Rattle.architecture_outcomes.specs.Stops.{is_same_failure}
 use Rattle.elf_loader.specs.Image.{Initial}
 use Rattle.exploration_text.specs.Words.{end_text}
 use Rattle.exploration_text.specs.declared.wording.WordName.{WordName}
 use Rattle.exploration_text.specs.Ranks.{outcome_cmp}
 use Rattle.fence_audit.specs.declared.answers.Answer.{Answer}
-use Rattle.fence_audit.specs.declared.answers.Answer.TheVariants.{Bounded, Fewer, Other, Same}
+use Rattle.fence_audit.specs.declared.answers.Answer.TheVariants.{Bounded, Fewer, Other, Same, Stops}
 use Rattle.fence_audit.specs.declared.answers.Standard.{Standard}
 use Rattle.fence_audit.specs.declared.answers.Standard.TheVariants.{AsItIs, Within}
 use Rattle.fence_audit.specs.declared.searches.World.{World}
@@ -32,12 +37,14 @@ use Rattle.architecture_outcomes.specs.TheVariants.{Whole}
 -- ---- a search
 
 -- what is said to show an outcome does; where the machine's own search is complete, each of its outcomes is told as one of the machine, and each other as the model's alone;
--- where the search under the model left nothing out, each outcome that the model allows is told; it finds no more states than the limit, unless it says that it met one or that memory ended; the outcomes stand in their order, each once
+-- where the search under the model left nothing out, each outcome that the model allows is told, and each hart that stops in a run that it allows, whatever the others do then; what is said to show such a hart does; it finds no more states than the limit, unless it says that it met one or that memory ended; the outcomes stand in their order, each once
 pub record IsSearchOf (image : Initial) (config : Config) (addresses : List ℕ) (window limit : ℕ) (found : Architecture) : Type 0 where
   pub shown : All (IsWitnessed image config addresses) found.outcomes.items
   pub machine : found.machine ≡ Complete → TellsEachEnd image config addresses found.outcomes.items
   pub alone : found.machine ≡ Complete → All (λ o. IsDecided o.way) found.outcomes.items
   pub allowed : found.reach ≡ Whole → TellsEachAllowed image config addresses (ends_of found.outcomes.items)
+  pub failing : found.reach ≡ Whole → TellsEachFailing image config (failures_in found.failures.items)
+  pub stopped : All (IsShown image config addresses) found.failures.items
   pub bounded : keeps_limit found.reach ≡ true → found.states ≤ limit
   pub order : IsStrictlySortedBy (on end_of outcome_cmp) found.outcomes.items
   pub model : found.model ≡ config.model
@@ -47,11 +54,13 @@ abbrev pub whole_by : Reach → Extent → Bool
 whole_by Whole Complete = true
 whole_by _ _ = false
 
--- the same of a search of this machine alone, of which nothing is asked of the model, and so nothing of it left out: each outcome is told as the machine's, and where the search is complete, each that it has
+-- the same of a search of this machine alone, of which nothing is asked of the model, and so nothing of it left out: each outcome is told as the machine's, and where the search is complete, each that it has; so is each hart that it stops
 pub record IsMachineSearchOf (image : Initial) (config : Config) (addresses : List ℕ) (window limit : ℕ) (found : Architecture) : Type 0 where
   pub shown : All (IsWitnessed image config addresses) found.outcomes.items
   pub machine : found.machine ≡ Complete → HasEachEnd image config addresses (ends_of found.outcomes.items)
   pub alone : All (λ o. IsMachine o.way) found.outcomes.items
+  pub failing : found.machine ≡ Complete → HasEachFailure image config (failures_in found.failures.items)
+  pub stopped : All (IsShown image config addresses) found.failures.items
   pub bounded : found.machine_states ≤ limit
   pub order : IsStrictlySortedBy (on end_of outcome_cmp) found.outcomes.items
   pub model : found.model ≡ config.model
@@ -86,16 +95,26 @@ has_end outcomes o = list_any (tells (end_of o)) outcomes
 abbrev pub first_beyond : (others outcomes : List Outcome) → Option ℕ
 first_beyond others = position (λ o. not (has_end others o))
 
--- another outcome counts whatever was left out, and that there is none, or one less, only where nothing was
-abbrev pub answer_by : (other missing : Option ℕ) → (whole : Bool) → Answer
-answer_by (Some place) missing whole = Other place
-answer_by None missing false = Bounded
-answer_by None (Some place) true = Fewer place
-answer_by None None true = Same
+-- one of these harts stops so
+abbrev pub has_stop : List Failing → Failure → Bool
+has_stop failings x = list_any (λ (f : Failing). is_same_failure f.failure x) failings
+
+-- the place of the first hart that stops as none of the others does
+abbrev pub first_stop_beyond : (others failings : List Failing) → Option ℕ
+first_stop_beyond others = position (λ (f : Failing). not (has_stop others f.failure))
+
+-- another outcome counts whatever was left out, and else another hart that stops; and that there is none, or one outcome less, only where nothing was
+abbrev pub answer_by : (other stops missing : Option ℕ) → (whole : Bool) → Answer
+answer_by (Some place) stops missing whole = Other place
+answer_by None (Some place) missing whole = Stops place
+answer_by None None missing false = Bounded
+answer_by None None (Some place) true = Fewer place
+answer_by None None None true = Same
 
 -- what was found beside what was known, where the search that knew it was whole
-abbrev pub answer_as : (known : List Outcome) → Architecture → Answer
-answer_as known found = answer_by (first_beyond known found.outcomes.items) (first_beyond found.outcomes.items known) (is_whole found)
+abbrev pub answer_as : (known : Architecture) → Architecture → Answer
+answer_as known found =
+    answer_by (first_beyond known.outcomes.items found.outcomes.items) (first_stop_beyond known.failures.items found.failures.items) (first_beyond found.outcomes.items known.outcomes.items) (is_whole found)
 
 -- ---- beside what is allowed
 
@@ -110,7 +129,7 @@ first_refused allows names place (o ∷ rest) = if is_allowed allows names o the
 
 -- what was found beside what is allowed, of which the program may lack any
 abbrev pub answer_within : (allows : List ℕ → Bool) → List WordName → Architecture → Answer
-answer_within allows names found = answer_by (first_refused allows names 0 found.outcomes.items) None (is_whole found)
+answer_within allows names found = answer_by (first_refused allows names 0 found.outcomes.items) None None (is_whole found)
 
 -- ---- beside either
 
@@ -118,6 +137,7 @@ answer_within allows names found = answer_by (first_refused allows names 0 found
 abbrev pub is_enough : Answer → Bool
 is_enough Same = true
 is_enough (Other place) = false
+is_enough (Stops place) = false
 is_enough (Fewer place) = false
 is_enough Bounded = false
 
@@ -125,6 +145,7 @@ is_enough Bounded = false
 abbrev pub refused_place : Answer → Option ℕ
 refused_place Same = None
 refused_place (Other place) = Some place
+refused_place (Stops place) = None
 refused_place (Fewer place) = None
 refused_place Bounded = None
 

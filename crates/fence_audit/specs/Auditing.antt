@@ -2,11 +2,13 @@
 use Rattle.std.specs.Prelude.{◌≡◌, ◌⊎◌, ℕ, All, Bool, List, None, Option, Some, slice_get, true}
 use Rattle.elf_loader.specs.Image.{Initial, word_at}
 use Rattle.architecture_outcomes.specs.declared.architecture.Architecture.{Architecture}
+use Rattle.architecture_outcomes.specs.declared.failing.Failing.{Failing}
 use Rattle.architecture_outcomes.specs.declared.outcome.Outcome.{Outcome}
-use Rattle.fence_audit.specs.Answers.{IsSearchIn, answer_as, is_whole, refused_place}
+use Rattle.architecture_outcomes.specs.declared.outcome.Way.{Way}
+use Rattle.fence_audit.specs.Answers.{IsSearchIn, answer_as, is_whole}
 use Rattle.fence_audit.specs.Searches.{AreSearched, IsAsked, IsSearched, answer_in, search_in}
 use Rattle.fence_audit.specs.declared.answers.Answer.{Answer}
-use Rattle.fence_audit.specs.declared.answers.Answer.TheVariants.{Same}
+use Rattle.fence_audit.specs.declared.answers.Answer.TheVariants.{Bounded, Fewer, Other, Same, Stops}
 use Rattle.fence_audit.specs.declared.auditing.Audit.{Audit}
 use Rattle.fence_audit.specs.declared.auditing.Parts.{Parts}
 use Rattle.fence_audit.specs.declared.searches.Asking.{Asking}
@@ -97,24 +99,35 @@ pub record IsAuditBy (world : World) (image : Initial) (config : Config) (addres
   pub known : IsSearchIn world image config addresses window limit audit.known
   pub parts : ArePartsOf world image config addresses window limit answers (is_whole audit.known) (parts_in audit)
 
--- each is to have the outcomes of the program as it is
+-- each is to have the outcomes of the program as it is, and no other hart that stops
 abbrev pub IsAudit : World → Initial → Config → (addresses : List ℕ) → (window limit : ℕ) → Audit → Type 0
-IsAudit world image config addresses window limit audit = IsAuditBy world image config addresses window limit (answer_as audit.known.outcomes.items) audit
+IsAudit world image config addresses window limit audit = IsAuditBy world image config addresses window limit (answer_as audit.known) audit
 
 -- ---- what shows that an ordering is needed
 
-abbrev pub outcome_at : List Outcome → (place : Option ℕ) → Option Outcome
-outcome_at outcomes None = None
-outcome_at outcomes (Some place) = slice_get outcomes place
+abbrev pub way_to : Option Outcome → Option Way
+way_to None = None
+way_to (Some outcome) = Some outcome.way
 
--- the first outcome of a search that isn't one of those that there are to be
-abbrev pub shown_by : Search → Option Outcome
-shown_by search = outcome_at search.found.outcomes.items (refused_place search.answer)
+abbrev pub way_to_stop : Option Failing → Option Way
+way_to_stop None = None
+way_to_stop (Some failing) = Some failing.way
 
-abbrev pub shown_in : Option Search → Option Outcome
+-- of the first outcome of a search that isn't one of those that there are to be, or else of the first hart that stops as none is to
+abbrev pub shown_as : Architecture → Answer → Option Way
+shown_as found (Other place) = way_to (slice_get found.outcomes.items place)
+shown_as found (Stops place) = way_to_stop (slice_get found.failures.items place)
+shown_as found Same = None
+shown_as found (Fewer place) = None
+shown_as found Bounded = None
+
+abbrev pub shown_by : Search → Option Way
+shown_by search = shown_as search.found search.answer
+
+abbrev pub shown_in : Option Search → Option Way
 shown_in None = None
 shown_in (Some search) = shown_by search
 
 -- of the program without the ordering
-abbrev pub shown_without : Audit → ImageOrdering → Option Outcome
+abbrev pub shown_without : Audit → ImageOrdering → Option Way
 shown_without audit o = shown_in (search_in audit.searches.items (patches_without o audit.own.items))

@@ -71,6 +71,7 @@ open_text found = codes "undecided, all that may order" ++ (bound_text found ++ 
 abbrev pub answer_text : List WordName → List Named → Missing → Search → Answer → List ℕ
 answer_text names symbols m search answer.Same = changes_text symbols (is_minimal m) m.last.items m.own.items
 answer_text names symbols m search (answer.Other place) = codes "not enough, all that may order:" ++ (end_at names (slice_get search.found.outcomes.items place) ++ codes "\n")
+answer_text names symbols m search (answer.Stops place) = []
 answer_text names symbols m search (answer.Fewer place) = []
 answer_text names symbols m search answer.Bounded = open_text search.found
 

@@ -3,10 +3,12 @@ use Rattle.std.specs.Prelude.{ℕ, ◌+◌, ◌==◌, ◌∷◌, ◌++◌, ◌||
 use Rattle.std.specs.List.{list_all, list_any}
 use Rattle.architecture_outcomes.specs.Outcomes.{end_of}
 use Rattle.architecture_outcomes.specs.declared.architecture.Architecture.{Architecture}
+use Rattle.architecture_outcomes.specs.declared.failing.Failing.{Failing}
 use Rattle.architecture_outcomes.specs.declared.outcome.Outcome.{Outcome}
 use Rattle.assembly.specs.Assembly.{assembly}
 use Rattle.elf_symbols.specs.Lookups.{nearest}
 use Rattle.elf_symbols.specs.Named.{Named}
+use Rattle.exploration_text.specs.Failures.{stopped_text}
 use Rattle.exploration_text.specs.Words.{end_text}
 use Rattle.exploration_text.specs.declared.wording.WordName.{WordName}
 use Rattle.fence_audit.specs.Answers.{is_whole, lacked_memory}
@@ -87,21 +89,31 @@ abbrev pub head_text : List Named → (previous : ℕ) → List Patch → (addre
 head_text symbols previous own address =
     if previous == address then codes "" else instr_line symbols own address
 
--- what a search without it told, beside what is known of the program as it is
-abbrev pub answer_text : List WordName → List Outcome → Search → Answer → List ℕ
-answer_text names known search answer.Same = codes "not needed\n"
-answer_text names known search (answer.Other place) = codes "needed: without it" ++ (end_at names (slice_get search.found.outcomes.items place) ++ codes "\n")
-answer_text names known search (answer.Fewer place) = codes "needed: no longer without it" ++ (end_at names (slice_get known place) ++ codes "\n")
-answer_text names known search answer.Bounded = codes "undecided" ++ (bound_text search.found ++ codes "\n")
+-- the hart that stops, where and why
+abbrev pub stopped_at : List Named → Option Failing → List ℕ
+stopped_at symbols None = codes ""
+stopped_at symbols (Some f) = stopped_text symbols f.failure.hart f.failure.stop
 
-abbrev pub told_text : List WordName → List Outcome → Option Search → List ℕ
-told_text names known None = codes "not asked\n"
-told_text names known (Some search) = answer_text names known search search.answer
+abbrev pub stop_line : List Named → Option Failing → List ℕ
+stop_line symbols f = codes "needed: without it  " ++ (stopped_at symbols f ++ codes "\n")
+
+-- what a search without it told, beside what is known of the program as it is
+abbrev pub answer_text : List WordName → List Named → List Outcome → Search → Answer → List ℕ
+answer_text names symbols known search answer.Same = codes "not needed\n"
+answer_text names symbols known search (answer.Other place) = codes "needed: without it" ++ (end_at names (slice_get search.found.outcomes.items place) ++ codes "\n")
+answer_text names symbols known search (answer.Stops place) = stop_line symbols (slice_get search.found.failures.items place)
+answer_text names symbols known search (answer.Fewer place) = codes "needed: no longer without it" ++ (end_at names (slice_get known place) ++ codes "\n")
+answer_text names symbols known search answer.Bounded = codes "undecided" ++ (bound_text search.found ++ codes "\n")
+
+abbrev pub told_text : List WordName → List Named → List Outcome → Option Search → List ℕ
+told_text names symbols known None = codes "not asked\n"
+told_text names symbols known (Some search) = answer_text names symbols known search search.answer
 
 -- a FENCE in its place that is enough, or may be
 abbrev pub form_by : (w : ℕ) → Architecture → Answer → List ℕ
 form_by w found answer.Same = codes "    enough: " ++ (word_text (Some w) ++ codes "\n")
 form_by w found (answer.Other place) = codes ""
+form_by w found (answer.Stops place) = codes ""
 form_by w found (answer.Fewer place) = codes ""
 form_by w found answer.Bounded = codes "    undecided: " ++ (word_text (Some w) ++ (bound_text found ++ codes "\n"))
 
@@ -124,23 +136,23 @@ weaker_text_by Acquire searches own address = codes ""
 weaker_text_by Release searches own address = codes ""
 
 -- what a search without it told
-abbrev pub without_text : List WordName → Audit → ImageOrdering → List ℕ
-without_text names a o = told_text names a.known.outcomes.items (search_in a.searches.items (patches_without o a.own.items))
+abbrev pub without_text : List WordName → List Named → Audit → ImageOrdering → List ℕ
+without_text names symbols a o = told_text names symbols a.known.outcomes.items (search_in a.searches.items (patches_without o a.own.items))
 
 -- a hart may come there
 abbrev pub is_met : List ImageOrdering → (address : ℕ) → Bool
 is_met met address = list_any (λ (o : ImageOrdering). o.address == address) met
 
 -- of one to which a hart may come, what a search without it told, and the weaker FENCEs
-abbrev pub met_text : (met : Bool) → List WordName → Audit → ImageOrdering → List ℕ
-met_text true names a o = without_text names a o ++ weaker_text_by o.part a.searches.items a.own.items o.address
-met_text false names a o = codes "never met\n"
+abbrev pub met_text : (met : Bool) → List WordName → List Named → Audit → ImageOrdering → List ℕ
+met_text true names symbols a o = without_text names symbols a o ++ weaker_text_by o.part a.searches.items a.own.items o.address
+met_text false names symbols a o = codes "never met\n"
 
 abbrev pub ordering_text : List WordName → List Named → Audit → (previous : ℕ) → ImageOrdering → List ℕ
 ordering_text names symbols a previous o =
     head_text symbols previous a.own.items o.address
     ++ (part_text o.part
-    ++ met_text (is_met a.met.items o.address) names a o)
+    ++ met_text (is_met a.met.items o.address) names symbols a o)
 
 abbrev pub ordering_texts : List WordName → List Named → Audit → (previous : ℕ) → List ImageOrdering → List ℕ
 ordering_texts names symbols a previous [] = []
@@ -161,9 +173,10 @@ abbrev pub items_text : (before : List ℕ) → List Patch → List ImageOrderin
 items_text before last [] = []
 items_text before last (o ∷ rest) = if is_kept last o then before ++ (item_text last o ++ items_text (codes ", ") last rest) else items_text before last rest
 
--- a search without it told another outcome, or one less
+-- a search without it told another outcome, or another hart that stops, or one outcome less
 abbrev pub is_another : Option Answer → Bool
 is_another (Some (answer.Other place)) = true
+is_another (Some (answer.Stops place)) = true
 is_another (Some (answer.Fewer place)) = true
 is_another _ = false
 

@@ -6,7 +6,7 @@ ghost use Rattle.fence_audit.specs.Searches.{ArePatchesOf, AreSearched, Grows, I
 ghost use Rattle.image_orderings.specs.Replaced.{IsPatchOf};
 
 use crate::answers::is_enough;
-use crate::searches::{Asking, Search, Steps};
+use crate::searches::{Asking, Search, Steps, Want};
 use image_orderings::{Patch, milder_words, patches_with, word_in};
 use std::alloc::AllocError;
 use std::thread::Threads;
@@ -42,7 +42,7 @@ impl Asking<'_> {
         watch.expects(most_added(own));
         let mut searches = Vec::new(self.alloc);
         let last = most.to_vec(self.alloc)?;
-        let answer = self.ask(&mut searches, most, watch)?;
+        let answer = self.ask_for(&mut searches, most, Want::First, watch)?;
         if !is_enough(answer) {
             return Ok(Added { searches, last });
         }

@@ -4,8 +4,9 @@ ghost use Rattle.allowed_outcomes.specs.Known.{allows_line};
 ghost use Rattle.fence_audit.specs.Answers as spec;
 
 use allowed_outcomes::{Allowed, without_number};
+use architecture_outcomes::explorer::flat_exploration::Failure;
 use architecture_outcomes::window_search::Reach;
-use architecture_outcomes::{Architecture, Outcome};
+use architecture_outcomes::{Architecture, Failing, Outcome};
 use exploration_text::{WordName, end_text};
 use state_search::Extent;
 use std::alloc::{AllocError, Global};
@@ -13,8 +14,8 @@ use std::alloc::{AllocError, Global};
 /// Which outcomes a changed program is to have.
 #[derive(Clone, Copy)]
 pub enum Standard<'a> {
-    /// Those of the program as it is, of which a whole search told these.
-    AsItIs(&'a [Outcome]),
+    /// Those of the program as it is, of which a whole search found this, and no hart that stops but those of it.
+    AsItIs(&'a Architecture),
     /// None that the file doesn't allow, where its lines call words of memory so.
     Within(&'a [WordName<'a>], &'a Allowed<'a>),
 }
@@ -26,9 +27,12 @@ pub enum Answer {
     Same,
     /// The outcome at this place is none that it may have.
     Other(usize),
+    /// It has no other outcome, but the hart at this place among those that stop, whatever the other harts do then, is none
+    /// that stops so in the program as it is.
+    Stops(usize),
     /// It was whole, and the outcome at this place of the program as it is isn't one of it.
     Fewer(usize),
-    /// It met a bound, and has no other outcome.
+    /// It met a bound, and has no other outcome, and no other hart that stops.
     Bounded,
 }
 
@@ -58,7 +62,7 @@ pub(crate) fn is_enough(answer: Answer) -> bool
 {
     match answer {
         Answer::Same => true,
-        Answer::Other(_) | Answer::Fewer(_) | Answer::Bounded => false,
+        Answer::Other(_) | Answer::Stops(_) | Answer::Fewer(_) | Answer::Bounded => false,
     }
 }
 
@@ -68,7 +72,7 @@ pub(crate) fn refused_place(answer: Answer) -> Option<usize>
 {
     match answer {
         Answer::Other(place) => Some(place),
-        Answer::Same | Answer::Fewer(_) | Answer::Bounded => None,
+        Answer::Same | Answer::Stops(_) | Answer::Fewer(_) | Answer::Bounded => None,
     }
 }
 
@@ -139,19 +143,38 @@ fn is_allowed(
 }
 
 /// What was found, beside what was known.
-fn answer_as(known: &[Outcome], found: &Architecture) -> Answer
+fn answer_as(known: &Architecture, found: &Architecture) -> Answer
     ensures { result ≡ spec.answer_as known.now found.now }
 {
-    if let Some(place) = first_beyond(known, &found.outcomes) {
+    if let Some(place) = first_beyond(&known.outcomes, &found.outcomes) {
         return Answer::Other(place);
+    }
+    if let Some(place) = first_stop_beyond(&known.failures, &found.failures) {
+        return Answer::Stops(place);
     }
     if !is_whole(found) {
         return Answer::Bounded;
     }
-    match first_beyond(&found.outcomes, known) {
+    match first_beyond(&found.outcomes, &known.outcomes) {
         Some(place) => Answer::Fewer(place),
         None => Answer::Same,
     }
+}
+
+/// The place of the first hart that stops as none of the others does.
+fn first_stop_beyond(others: &[Failing], failings: &[Failing]) -> Option<usize>
+    ensures { result ≡ spec.first_stop_beyond others.now failings.now }
+{
+    failings
+        .iter()
+        .position(|failing| !has_stop(others, failing.failure))
+}
+
+/// Whether one of these stops so.
+fn has_stop(failings: &[Failing], failure: Failure) -> bool
+    ensures { result ≡ spec.has_stop failings.now failure }
+{
+    failings.iter().any(|each| each.failure == failure)
 }
 
 /// The place of the first outcome that isn't one of the others.

@@ -3,12 +3,12 @@ ghost use Rattle.std.specs.Prelude.{◌≡◌, All, IfOk, OnOk};
 ghost use Rattle.std.specs.Option.{option_copied};
 ghost use Rattle.elf_loader.specs.Image.{HasWord};
 ghost use Rattle.fence_audit.specs.Answers.{answer_of};
-ghost use Rattle.fence_audit.specs.Auditing.{ArePartsOf, IsAudit, IsLeftOut, IsReduction, audit_with, shown_by, shown_without};
+ghost use Rattle.fence_audit.specs.Auditing.{ArePartsOf, IsAudit, IsLeftOut, IsReduction, audit_with, shown_by, shown_without, way_to, way_to_stop};
 ghost use Rattle.fence_audit.specs.Searches.{ArePatchesOf, AreSearched, Grows, IsReady};
 
-use crate::answers::{Standard, is_whole, refused_place};
-use crate::searches::{Asking, Question, Search, Steps, World, explore, search_in};
-use architecture_outcomes::{Architecture, Outcome};
+use crate::answers::{Answer, Standard, is_whole};
+use crate::searches::{Asking, Question, Search, Steps, Want, World, explore, search_in};
+use architecture_outcomes::{Architecture, Failing, Outcome, Way};
 use image_orderings::{
     ImageOrdering, Part, Patch, met_orderings, orderings_of, own_patches, patches_without,
 };
@@ -34,10 +34,11 @@ pub struct Audit {
     pub last: Vec<Patch>,
 }
 
-/// Searches the program as it is, and where that search is whole without each of its orderings to which a hart may come, with weaker FENCEs in
-/// place of those that are needed, and with ever fewer orderings: each is left out in turn, by addresses, and then each
-/// FENCE made weaker, where the outcomes stay the same. Programs that are known beforehand are searched side by side.
-/// Meanwhile `watch` is told how far it is. The error is that there was no memory.
+/// Searches the program as it is, and where that search is whole without each of its orderings to which a hart may come,
+/// with weaker FENCEs in place of those that are needed, and with ever fewer orderings: each is left out in turn, by
+/// addresses, and then each FENCE made weaker, where the outcomes stay the same, and no other hart stops. Programs that are
+/// known beforehand are searched side by side. Meanwhile `watch` is told how far it is. The error is that there was no
+/// memory.
 pub fn audit_program<R: Threads + Sync, W: Steps + Sync>(
     rt: &R,
     alloc: Global,
@@ -48,7 +49,7 @@ pub fn audit_program<R: Threads + Sync, W: Steps + Sync>(
     ensures { IfOk result (IsAudit question.entry.world question.entry.image.now question.entry.config question.entry.addresses.now question.entry.window question.entry.limit) }
 {
     let known = explore(alloc, question, &[], watch)?;
-    let standard = Standard::AsItIs(&known.outcomes);
+    let standard = Standard::AsItIs(&known);
     let parts = parts_of(rt, alloc, question, standard, is_whole(&known), watch)?;
     Ok(audit_with(question.world, known, parts))
 }
@@ -158,12 +159,12 @@ impl Asking<'_> {
     {
         watch.expects(most_searched(orderings));
         let mut searches = Vec::new(self.alloc);
-        self.prepare(rt, &mut searches, orderings, own, watch)?;
+        self.prepare(rt, &mut searches, orderings, own, Want::First, watch)?;
         self.ask_each(&mut searches, orderings, own, watch)?;
         self.prepare_forms(rt, &mut searches, orderings, own, watch)?;
         self.weigh_each(&mut searches, orderings, own, watch)?;
         let last = self.reduced(&mut searches, orderings, own, watch)?;
-        self.prepare(rt, &mut searches, orderings, &last, watch)?;
+        self.prepare(rt, &mut searches, orderings, &last, Want::Any, watch)?;
         self.ask_each(&mut searches, orderings, &last, watch)?;
         Ok(Reduced { searches, last })
     }
@@ -208,13 +209,14 @@ impl Asking<'_> {
     }
 }
 
-/// The outcome that shows that an ordering is needed, with the events or the trace that show it, where a search without
-/// the ordering told one: it isn't one of those that there are to be. The error is that there was no memory.
+/// What shows that an ordering is needed, where a search without the ordering told it: the events or the trace of an outcome
+/// that isn't one of those that there are to be, or else of a hart that stops as none is to. The error is that there was no
+/// memory.
 pub fn shown_without<'s>(
     alloc: Global,
     audit: &'s Audit,
     ordering: ImageOrdering,
-) -> Result<Option<&'s Outcome>, AllocError>
+) -> Result<Option<&'s Way>, AllocError>
     ensures { IfOk result (λ shown. option_copied shown ≡ shown_without audit.now ordering) }
 {
     let without = patches_without(alloc, &audit.own, ordering)?;
@@ -224,10 +226,32 @@ pub fn shown_without<'s>(
     })
 }
 
-/// The outcome that a search told that isn't one of those that there are to be.
-fn shown_by(search: &Search) -> Option<&Outcome>
+/// What shows what a search told that isn't to be.
+fn shown_by(search: &Search) -> Option<&Way>
     ensures { option_copied result ≡ shown_by search.now }
 {
-    let place = refused_place(search.answer)?;
-    search.found.outcomes.get(place)
+    let found = &search.found;
+    match search.answer {
+        Answer::Other(place) => way_to(found.outcomes.get(place)),
+        Answer::Stops(place) => way_to_stop(found.failures.get(place)),
+        Answer::Same | Answer::Fewer(_) | Answer::Bounded => None,
+    }
+}
+
+fn way_to(outcome: Option<&Outcome>) -> Option<&Way>
+    ensures { option_copied result ≡ way_to (option_copied outcome.entry) }
+{
+    match outcome {
+        Some(outcome) => Some(&outcome.way),
+        None => None,
+    }
+}
+
+fn way_to_stop(failing: Option<&Failing>) -> Option<&Way>
+    ensures { option_copied result ≡ way_to_stop (option_copied failing.entry) }
+{
+    match failing {
+        Some(failing) => Some(&failing.way),
+        None => None,
+    }
 }

@@ -78,7 +78,7 @@ fn spell_answer(
                 place,
             )
         }
-        Answer::Fewer(_) => Ok(()),
+        Answer::Stops(_) | Answer::Fewer(_) => Ok(()),
         Answer::Bounded => spell_open(into, &search.found),
     }
 }
@@ -212,7 +212,7 @@ fn is_needed(alloc: Global, missing: &Missing, own: Patch) -> Result<bool, Alloc
     let without = patches_with(alloc, &missing.last, own.address, own.word)?;
     Ok(matches!(
         answer_in(&missing.searches, &without),
-        Some(Answer::Other(_) | Answer::Fewer(_))
+        Some(Answer::Other(_) | Answer::Stops(_) | Answer::Fewer(_))
     ))
 }
 

@@ -6,7 +6,7 @@ ghost use Rattle.fence_audit.specs.Answers.{IsMachineSearchOf};
 
 use architecture_outcomes::explorer::{Exploration, Exploring, Found, explore};
 use architecture_outcomes::window_search::Reach;
-use architecture_outcomes::{Architecture, Outcome, Way};
+use architecture_outcomes::{Architecture, Outcome, Way, stops_of_machine};
 use elf_loader::Image;
 use machine_types::Config;
 use state_search::{Throughout, Watch};
@@ -50,6 +50,7 @@ pub(crate) fn search_machine<W: Watch>(
 {
     let Exploration {
         outcomes,
+        failures,
         extent,
         states,
         ..
@@ -64,7 +65,7 @@ pub(crate) fn search_machine<W: Watch>(
     )?;
     Ok(Architecture {
         outcomes: of_machine(alloc, outcomes)?,
-        failures: Vec::new(alloc),
+        failures: stops_of_machine(alloc, failures)?,
         model: config.model,
         window: window.min(WIDEST),
         reach: Reach::Whole,

@@ -56,7 +56,7 @@ impl Asking<'_> {
         let tried = patches_without(self.alloc, &last, ordering)?;
         match self.ask(searches, &tried, watch)? {
             Answer::Same => Ok(tried),
-            Answer::Other(_) | Answer::Fewer(_) | Answer::Bounded => Ok(last),
+            Answer::Other(_) | Answer::Stops(_) | Answer::Fewer(_) | Answer::Bounded => Ok(last),
         }
     }
 

@@ -1,5 +1,5 @@
-//! The searches of an audit, none of which is made twice.
-ghost use Rattle.std.specs.Prelude.{◌<◌, ◌≡◌, IfOk, OnOk, Some, option_map};
+//! The searches of an audit, of each program one.
+ghost use Rattle.std.specs.Prelude.{◌<◌, ◌≡◌, ◌≤◌, IfOk, OnOk, Some, option_map};
 ghost use Rattle.architecture_outcomes.specs.Words.{CanShowEach};
 ghost use Rattle.fence_audit.specs.Answers.{IsSearchIn, IsSearchOf};
 ghost use Rattle.fence_audit.specs.Searches.{ArePatchesOf, AreSearched, Grows, IsReady, IsSearchedBy, answer_in, is_of, search_in};
@@ -7,12 +7,13 @@ ghost use Rattle.image_orderings.specs.Replaced.{patched};
 
 use crate::answers::{Answer, Standard, answer_of};
 use crate::machine::search_machine;
+use architecture_outcomes::window_search::Reach;
 use architecture_outcomes::{Architecture, explore_architecture};
 use elf_loader::Image;
 use exploration_text::explorer::Exploring;
 use image_orderings::{Patch, patched};
 use machine_types::Config;
-use state_search::{Throughout, Unwatched, Watch};
+use state_search::{Extent, Throughout, Unwatched, Watch};
 use std::alloc::{AllocError, Global};
 
 /// Is told how far an audit is, beside how far each of its searches is.
@@ -87,6 +88,35 @@ fn is_of(search: &Search, patches: &[Patch]) -> bool
     search.patches.as_slice() == patches
 }
 
+/// What is wanted of a search whose program has outcomes that it may not have, or harts that may not stop so.
+#[derive(Clone, Copy)]
+pub(crate) enum Want {
+    /// The first of these outcomes, which is told: of all that there are, unless there are very many states.
+    First,
+    /// Whether there is one, or such a hart.
+    Any,
+}
+
+impl Want {
+    /// How many states a first look may find. Where that shows what is wanted there are no more looks.
+    fn few(self) -> u32
+        ensures { 0 < result }
+    {
+        match self {
+            Want::First => 65_536,
+            Want::Any => 4_096,
+        }
+    }
+
+    /// Whether a search that answers so shows it.
+    fn is_shown_by(self, answer: Answer) -> bool {
+        match (self, answer) {
+            (_, Answer::Other(_)) | (Want::Any, Answer::Stops(_)) => true,
+            _ => false,
+        }
+    }
+}
+
 /// Searches of a program with words replaced, beside the outcomes that it is to have.
 #[derive(Clone, Copy)]
 pub(crate) struct Asking<'a> {
@@ -106,9 +136,26 @@ pub(crate) fn explore<W: Watch>(
     requires of_image { ArePatchesOf question patches.now }
     ensures { IfOk result (IsSearchIn question.entry.world (patched question.entry.image.now patches.now) question.entry.config question.entry.addresses.now question.entry.window question.entry.limit) }
 {
+    explore_within(alloc, question, question.limit, patches, watch)
+}
+
+/// The same within so many states, which are no more than there may be.
+fn explore_within<W: Watch>(
+    alloc: Global,
+    question: Question<'_>,
+    limit: u32,
+    patches: &[Patch],
+    watch: &W,
+) -> Result<Architecture, AllocError>
+    requires ready { IsReady question }
+    requires room { 0 < limit }
+    requires few { limit ≤ question.limit }
+    requires of_image { ArePatchesOf question patches.now }
+    ensures { IfOk result (IsSearchIn question.entry.world (patched question.entry.image.now patches.now) question.entry.config question.entry.addresses.now question.entry.window question.entry.limit) }
+{
     let image = patched(alloc, question.image, patches)?;
     let exploring = Exploring {
-        limit: question.limit,
+        limit,
         shortened: false,
     };
     search_world(alloc, &image, question, exploring, watch)
@@ -170,6 +217,13 @@ pub(crate) fn tell<W: Steps>(searches: &[Search], watch: &W) {
     watch.searched((searches.len() as u64).saturating_add(1));
 }
 
+/// Whether more states may show more.
+fn met_limit(found: &Architecture) -> bool {
+    // Where few numbers were tried for loads a last pass finds more, and trying all of them takes more states.
+    matches!(found.reach, Reach::LimitMet | Reach::Unclosed)
+        || matches!(found.machine, Extent::LimitMet)
+}
+
 impl Asking<'_> {
     /// What a search of the program with these words replaced answers. It is made unless it was already.
     pub(crate) fn ask<W: Steps + Sync>(
@@ -184,20 +238,39 @@ impl Asking<'_> {
         ensures grown { OnOk result (Grows searches.old.items searches.new.items) }
         ensures searched { OnOk result (AreSearched self.now searches.old.items → AreSearched self.now searches.new.items) }
     {
+        self.ask_for(searches, patches, Want::Any, watch)
+    }
+
+    /// The same, where this is wanted of a search that is made.
+    pub(crate) fn ask_for<W: Steps + Sync>(
+        &self,
+        searches: &mut Vec<Search>,
+        patches: &[Patch],
+        want: Want,
+        watch: &W,
+    ) -> Result<Answer, AllocError>
+        requires ready { IsReady self.now.question }
+        requires of_image { ArePatchesOf self.now.question patches.now }
+        ensures asked { IfOk result (λ answer. answer_in searches.new.items patches.now ≡ Some answer) }
+        ensures grown { OnOk result (Grows searches.old.items searches.new.items) }
+        ensures searched { OnOk result (AreSearched self.now searches.old.items → AreSearched self.now searches.new.items) }
+    {
         if let Some(search) = search_in(searches.as_slice(), patches) {
             return Ok(search.answer);
         }
-        let search = self.search(patches, watch)?;
+        let search = self.search(patches, want, watch)?;
         let answer = search.answer;
         searches.push(search)?;
         tell(searches, watch);
         Ok(answer)
     }
 
-    /// A search of the program with these words replaced.
+    /// A search of the program with these words replaced: with few states first, which mostly suffice to show an outcome that
+    /// it may not have, and else with as many as there may be.
     pub(crate) fn search<W: Steps + Sync>(
         &self,
         patches: &[Patch],
+        want: Want,
         watch: &W,
     ) -> Result<Search, AllocError>
         requires ready { IsReady self.now.question }
@@ -205,7 +278,32 @@ impl Asking<'_> {
         ensures patches { IfOk result (λ search. search.patches.items ≡ patches.now) }
         ensures searched { IfOk result (IsSearchedBy self.now) }
     {
-        let found = explore(self.alloc, self.question, patches, watch)?;
+        let limit = self.question.limit;
+        let few = want.few();
+        if few < limit {
+            let search = self.search_within(patches, few, watch)?;
+            if want.is_shown_by(search.answer) || !met_limit(&search.found) {
+                return Ok(search);
+            }
+        }
+        self.search_within(patches, limit, watch)
+    }
+
+    /// A search of the program with these words replaced, within so many states.
+    fn search_within<W: Steps + Sync>(
+        &self,
+        patches: &[Patch],
+        limit: u32,
+        watch: &W,
+    ) -> Result<Search, AllocError>
+        requires ready { IsReady self.now.question }
+        requires room { 0 < limit }
+        requires few { limit ≤ self.now.question.limit }
+        requires of_image { ArePatchesOf self.now.question patches.now }
+        ensures patches { IfOk result (λ search. search.patches.items ≡ patches.now) }
+        ensures searched { IfOk result (IsSearchedBy self.now) }
+    {
+        let found = explore_within(self.alloc, self.question, limit, patches, watch)?;
         let answer = answer_of(self.alloc, self.standard, &found)?;
         let patches = patches.to_vec(self.alloc)?;
         Ok(Search {

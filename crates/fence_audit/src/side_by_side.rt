@@ -6,7 +6,7 @@ ghost use Rattle.fence_audit.specs.SideBySide.{ArePrograms};
 ghost use Rattle.image_orderings.specs.Forms.{IsVariant};
 
 use crate::answers::Answer;
-use crate::searches::{Asking, Search, Steps, search_in, tell};
+use crate::searches::{Asking, Search, Steps, Want, search_in, tell};
 use image_orderings::{
     ImageOrdering, Part, Patch, is_weaker, patches_with, patches_without, weaker_words,
 };
@@ -20,13 +20,14 @@ const ROUNDS: u32 = 3;
 type Programs = Vec<Vec<Patch>>;
 
 impl Asking<'_> {
-    /// Searches the programs without each of the orderings.
+    /// Searches the programs without each of the orderings, where this is wanted of each.
     pub(crate) fn prepare<R: Threads + Sync, W: Steps + Sync>(
         &self,
         rt: &R,
         searches: &mut Vec<Search>,
         orderings: &[ImageOrdering],
         patches: &[Patch],
+        want: Want,
         watch: &W,
     ) -> Result<(), AllocError>
         requires ready { IsReady self.now.question }
@@ -39,7 +40,7 @@ impl Asking<'_> {
             let program = patches_without(self.alloc, patches, *ordering)?;
             self.add_new(&mut programs, searches, program)?;
         }
-        self.search_all(rt, searches, programs.as_slice(), watch)
+        self.search_all(rt, searches, programs.as_slice(), want, watch)
     }
 
     /// Searches the programs with each of its own words again.
@@ -62,7 +63,7 @@ impl Asking<'_> {
             let program = patches_with(self.alloc, patches, patch.address, patch.word)?;
             self.add_new(&mut programs, searches, program)?;
         }
-        self.search_all(rt, searches, programs.as_slice(), watch)
+        self.search_all(rt, searches, programs.as_slice(), Want::Any, watch)
     }
 
     /// Searches the programs with weaker ones in place of each FENCE that is needed, those of fewer pairs first, as far as
@@ -83,7 +84,7 @@ impl Asking<'_> {
     {
         for _round in 0..ROUNDS {
             let programs = self.next_forms(searches, orderings, own)?;
-            self.search_all(rt, searches, programs.as_slice(), watch)?;
+            self.search_all(rt, searches, programs.as_slice(), Want::Any, watch)?;
         }
         Ok(())
     }
@@ -224,6 +225,7 @@ impl Asking<'_> {
         rt: &R,
         searches: &mut Vec<Search>,
         programs: &[Vec<Patch>],
+        want: Want,
         watch: &W,
     ) -> Result<(), AllocError>
         requires ready { IsReady self.now.question }
@@ -235,7 +237,7 @@ impl Asking<'_> {
         let mut rest = programs;
         while !rest.is_empty() {
             let (batch, later) = rest.split_at(size.min(rest.len()));
-            self.search_batch(rt, searches, batch, watch)?;
+            self.search_batch(rt, searches, batch, want, watch)?;
             rest = later;
         }
         Ok(())
@@ -247,6 +249,7 @@ impl Asking<'_> {
         rt: &R,
         searches: &mut Vec<Search>,
         batch: &[Vec<Patch>],
+        want: Want,
         watch: &W,
     ) -> Result<(), AllocError>
         requires ready { IsReady self.now.question }
@@ -254,7 +257,7 @@ impl Asking<'_> {
         ensures grown { OnOk result (Grows searches.old.items searches.new.items) }
         ensures searched { OnOk result (AreSearched self.now searches.old.items → AreSearched self.now searches.new.items) }
     {
-        let mut made = self.made_of(rt, batch, watch)?;
+        let mut made = self.made_of(rt, batch, want, watch)?;
         while let Some(one) = made.pop() {
             let Ok(search) = one else {
                 return Err(AllocError);
@@ -270,6 +273,7 @@ impl Asking<'_> {
         &self,
         rt: &R,
         batch: &[Vec<Patch>],
+        want: Want,
         watch: &W,
     ) -> Result<Vec<Result<Search, AllocError>>, AllocError>
         requires ready { IsReady self.now.question }
@@ -279,7 +283,7 @@ impl Asking<'_> {
         let search = |i: usize| -> Result<Search, AllocError>
             requires { (i < length batch.now) × IsReady self.now.question × ArePrograms self.now.question batch.now }
             ensures { IfOk result (IsSearchedBy self.entry.now) }
-        { self.search(&batch[i], watch) };
+        { self.search(&batch[i], want, watch) };
         thread::map_indices(rt, self.alloc, batch.len(), &search)
     }
 }

@@ -12,11 +12,11 @@ ghost use Rattle.text_fields.specs.Fields.{word as hexadecimal};
 
 use crate::{Answer, Audit, Search, World, is_whole, lacked_memory, search_in};
 use architecture_outcomes::window_search::Reach;
-use architecture_outcomes::{Architecture, Outcome};
+use architecture_outcomes::{Architecture, Failing, Outcome};
 use assembly::spell_assembly;
 use elf_symbols::Symbols;
 use exploration_text::order_text::spell_place;
-use exploration_text::{WordName, end_text};
+use exploration_text::{WordName, end_text, stopped_text};
 use image_orderings::{
     ImageOrdering, Part, Patch, is_kept, patches_with, patches_without, weaker_words, word_in,
 };
@@ -236,7 +236,7 @@ fn spell_ordering(
 {
     spell_head(into, symbols, previous, audit, ordering.address)?;
     spell_part(into, ordering.part)?;
-    spell_if_met(alloc, into, names, audit, ordering)
+    spell_if_met(alloc, into, names, symbols, audit, ordering)
 }
 
 /// What searches told, of one to which a hart may come.
@@ -244,15 +244,16 @@ fn spell_if_met(
     alloc: Global,
     into: &mut Vec<u8>,
     names: &[WordName<'_>],
+    symbols: &Symbols,
     audit: &Audit,
     ordering: ImageOrdering,
 ) -> Result<(), AllocError>
-    ensures { OnOk result (into.new.items ≡ into.old.items ++ text.met_text (text.is_met audit.now.met.items ordering.address) names.now audit.now ordering) }
+    ensures { OnOk result (into.new.items ≡ into.old.items ++ text.met_text (text.is_met audit.now.met.items ordering.address) names.now symbols.now audit.now ordering) }
 {
     if !is_met(&audit.met, ordering.address) {
         return spell_text(into, b"never met\n");
     }
-    spell_without(alloc, into, names, audit, ordering)?;
+    spell_without(alloc, into, names, symbols, audit, ordering)?;
     spell_weaker(alloc, into, audit, ordering)
 }
 
@@ -267,14 +268,15 @@ fn spell_without(
     alloc: Global,
     into: &mut Vec<u8>,
     names: &[WordName<'_>],
+    symbols: &Symbols,
     audit: &Audit,
     ordering: ImageOrdering,
 ) -> Result<(), AllocError>
-    ensures { OnOk result (into.new.items ≡ into.old.items ++ text.without_text names.now audit.now ordering) }
+    ensures { OnOk result (into.new.items ≡ into.old.items ++ text.without_text names.now symbols.now audit.now ordering) }
 {
     let without = patches_without(alloc, &audit.own, ordering)?;
     let search = search_in(&audit.searches, &without);
-    spell_told(alloc, into, names, &audit.known.outcomes, search)
+    spell_told(alloc, into, names, symbols, &audit.known.outcomes, search)
 }
 
 fn spell_head(
@@ -350,13 +352,14 @@ fn spell_told(
     alloc: Global,
     into: &mut Vec<u8>,
     names: &[WordName<'_>],
+    symbols: &Symbols,
     known: &[Outcome],
     search: Option<&Search>,
 ) -> Result<(), AllocError>
-    ensures { OnOk result (into.new.items ≡ into.old.items ++ text.told_text names.now known.now (option_map (λ s. s.now) search.entry)) }
+    ensures { OnOk result (into.new.items ≡ into.old.items ++ text.told_text names.now symbols.now known.now (option_map (λ s. s.now) search.entry)) }
 {
     match search {
-        Some(search) => spell_answer(alloc, into, names, known, search),
+        Some(search) => spell_answer(alloc, into, names, symbols, known, search),
         None => {
             into.extend_from_slice(b"not asked\n")?;
             Ok(())
@@ -368,10 +371,11 @@ fn spell_answer(
     alloc: Global,
     into: &mut Vec<u8>,
     names: &[WordName<'_>],
+    symbols: &Symbols,
     known: &[Outcome],
     search: &Search,
 ) -> Result<(), AllocError>
-    ensures { OnOk result (into.new.items ≡ into.old.items ++ text.answer_text names.now known.now search.now search.now.answer) }
+    ensures { OnOk result (into.new.items ≡ into.old.items ++ text.answer_text names.now symbols.now known.now search.now search.now.answer) }
 {
     match search.answer {
         Answer::Same => {
@@ -381,6 +385,10 @@ fn spell_answer(
         Answer::Other(place) => {
             let outcomes = search.found.outcomes.as_slice();
             spell_at(alloc, into, b"needed: without it", names, outcomes, place)
+        }
+        Answer::Stops(place) => {
+            let failure = search.found.failures.get(place);
+            spell_stop(alloc, into, symbols, failure)
         }
         Answer::Fewer(place) => {
             spell_at(
@@ -394,6 +402,38 @@ fn spell_answer(
         }
         Answer::Bounded => spell_open(into, &search.found),
     }
+}
+
+/// The hart that stops where the ordering is left out.
+fn spell_stop(
+    alloc: Global,
+    into: &mut Vec<u8>,
+    symbols: &Symbols,
+    failing: Option<&Failing>,
+) -> Result<(), AllocError>
+    ensures { OnOk result (into.new.items ≡ into.old.items ++ text.stop_line symbols.now (option_copied failing.entry)) }
+{
+    spell_text(into, b"needed: without it  ")?;
+    spell_stopped(alloc, into, symbols, failing)?;
+    spell_text(into, b"\n")?;
+    Ok(())
+}
+
+fn spell_stopped(
+    alloc: Global,
+    into: &mut Vec<u8>,
+    symbols: &Symbols,
+    failing: Option<&Failing>,
+) -> Result<(), AllocError>
+    ensures { OnOk result (into.new.items ≡ into.old.items ++ text.stopped_at symbols.now (option_copied failing.entry)) }
+{
+    let Some(failing) = failing else {
+        return Ok(());
+    };
+    let failure = failing.failure;
+    let text = stopped_text(alloc, symbols, failure.hart, failure.stop)?;
+    into.extend_from_slice(&text)?;
+    Ok(())
 }
 
 /// What is said of an outcome, and the outcome at a place.
@@ -506,7 +546,7 @@ fn spell_form_by(
     match answer {
         Answer::Same => spell_enough(into, word),
         Answer::Bounded => spell_open_form(into, word, found),
-        Answer::Other(_) | Answer::Fewer(_) => Ok(()),
+        Answer::Other(_) | Answer::Stops(_) | Answer::Fewer(_) => Ok(()),
     }
 }
 
@@ -593,7 +633,10 @@ fn is_needed_in(alloc: Global, audit: &Audit, ordering: ImageOrdering) -> Result
     }
     let without = patches_without(alloc, &audit.last, ordering)?;
     Ok(match search_in(&audit.searches, &without) {
-        Some(search) => matches!(search.answer, Answer::Other(_) | Answer::Fewer(_)),
+        Some(search) => matches!(
+            search.answer,
+            Answer::Other(_) | Answer::Stops(_) | Answer::Fewer(_)
+        ),
         None => false,
     })
 }

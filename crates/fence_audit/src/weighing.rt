@@ -116,7 +116,7 @@ impl Asking<'_> {
                 enough.push(form)?;
                 Ok(())
             }
-            Answer::Other(_) | Answer::Fewer(_) | Answer::Bounded => Ok(()),
+            Answer::Other(_) | Answer::Stops(_) | Answer::Fewer(_) | Answer::Bounded => Ok(()),
         }
     }
 }

@@ -7,7 +7,6 @@ use Rattle.command_files.specs.Faults.{Name}
 use Rattle.command_settings.specs.declared.wanted.Fences.{Fences}
 use Rattle.elf_loader.specs.Image.{Initial}
 use Rattle.fence_audit.specs.Auditing.{shown_without}
-use Rattle.architecture_outcomes.specs.declared.outcome.Outcome.{Outcome}
 use Rattle.explorer.specs.declared.found.Realisation.{Realisation}
 use Rattle.explorer.specs.declared.found.Realisation.TheVariants.{Events, Limit, NoMemory, Unrealised}
 use Rattle.architecture_outcomes.specs.declared.outcome.Way.{Way}
@@ -111,8 +110,8 @@ module _ (fences : Fences) (config : Config) (kib : ℕ) (image : Initial) (file
   still : (before after : Contents) (number : ℕ) (needed : List Needed) → ((n : ℕ) (name : FileName) → number ≤ n → n < number + length needed → IsFileOf folder n name → after name ≡ before name)
       → AreShownFrom before fences config kib image file audit folder number needed → AreShownFrom after fences config kib image file audit folder number needed
   still before after number [] same shown = tt
-  still before after number ((o, outcome) ∷ rest) same shown = (
-    way_still before after (patches_without o audit.own.items) number outcome.way (λ name is. same number name (omega arith) (omega arith) is) shown.0,
+  still before after number ((o, way) ∷ rest) same shown = (
+    way_still before after (patches_without o audit.own.items) number way (λ name is. same number name (omega arith) (omega arith) is) shown.0,
     still before after (number + 1) rest (λ n name from below. same n name (omega (arith, from)) (omega (arith, below))) shown.1,
   )
 
@@ -139,17 +138,17 @@ module _ (fences : Fences) (config : Config) (kib : ℕ) (image : Initial) (file
       let on : needed_in audit rest ≡ needed_in audit tail = ap (needed_in audit) first ∙ ap (λ r. needed_with o r (needed_in audit tail)) none in
       record { done = has.done; whole = ap (λ (xs : List Needed). has.done ++ xs) (sym on) ∙ has.whole; count = has.count; shown = has.shown }
 
-  pub one_shown : (before after : Contents) (most number next : ℕ) (rest tail : List ImageOrdering) (o : ImageOrdering) (outcome : Outcome) → most < 2 ^ 64 → next ≤ most → next ≡ number + 1 → rest ≡ o ∷ tail → shown_without audit o ≡ Some outcome
-      → SparesOthers (IsFileOf folder next) before after → IsShownWithout after fences config kib image file audit folder next (o, outcome) → HasShown before number rest → HasShown after next tail
-  one_shown before after most number next rest tail o outcome small next_in next_is first some spares is has =
-      let on : needed_in audit rest ≡ (o, outcome) ∷ needed_in audit tail = ap (needed_in audit) first ∙ ap (λ r. needed_with o r (needed_in audit tail)) some in
+  pub one_shown : (before after : Contents) (most number next : ℕ) (rest tail : List ImageOrdering) (o : ImageOrdering) (way : Way) → most < 2 ^ 64 → next ≤ most → next ≡ number + 1 → rest ≡ o ∷ tail → shown_without audit o ≡ Some way
+      → SparesOthers (IsFileOf folder next) before after → IsShownWithout after fences config kib image file audit folder next (o, way) → HasShown before number rest → HasShown after next tail
+  one_shown before after most number next rest tail o way small next_in next_is first some spares is has =
+      let on : needed_in audit rest ≡ (o, way) ∷ needed_in audit tail = ap (needed_in audit) first ∙ ap (λ r. needed_with o r (needed_in audit tail)) some in
       let count = has.count in
       let place : 1 + length has.done ≡ next = omega (arith, count, next_is) in
       record {
-        done = has.done ++ (o, outcome) ∷ [];
-        whole = append_assoc has.done ((o, outcome) ∷ []) (needed_in audit tail) ∙ (ap (λ (xs : List Needed). has.done ++ xs) (sym on) ∙ has.whole);
-        count = length-append has.done ((o, outcome) ∷ []) ∙ omega (arith, count, next_is);
-        shown = push after 1 has.done (o, outcome) (still before after 1 has.done apart has.shown) (subst (λ i. IsShownWithout after fences config kib image file audit folder i (o, outcome)) (sym place) is);
+        done = has.done ++ (o, way) ∷ [];
+        whole = append_assoc has.done ((o, way) ∷ []) (needed_in audit tail) ∙ (ap (λ (xs : List Needed). has.done ++ xs) (sym on) ∙ has.whole);
+        count = length-append has.done ((o, way) ∷ []) ∙ omega (arith, count, next_is);
+        shown = push after 1 has.done (o, way) (still before after 1 has.done apart has.shown) (subst (λ i. IsShownWithout after fences config kib image file audit folder i (o, way)) (sym place) is);
       }
     where
       apart : (n : ℕ) (name : FileName) → 1 ≤ n → n < 1 + length has.done → IsFileOf folder n name → after name ≡ before name
@@ -165,13 +164,13 @@ module _ (fences : Fences) (config : Config) (kib : ℕ) (image : Initial) (file
       → IsPassed before after fences config kib image file audit folder number next o (shown_without audit o) → SparesOthers (IsFileOf folder (number + 1)) before after → HasShown before number rest → HasShown after next tail
   one_step before after most number next rest tail o small room first is spares has = go (shown_without audit o) refl is
     where
-      go : (r : Option Outcome) → shown_without audit o ≡ r → IsPassed before after fences config kib image file audit folder number next o r → HasShown after next tail
+      go : (r : Option Way) → shown_without audit o ≡ r → IsPassed before after fences config kib image file audit folder number next o r → HasShown after next tail
       go None none (same, left) = subst (λ h. HasShown h next tail) (sym left) (subst (λ n. HasShown before n tail) (sym same) (one_passed before number rest tail o first none has))
-      go (Some outcome) some (on, shown) = one_shown before after most number next rest tail o outcome small (omega (arith, on, room)) on first some (subst (λ n. SparesOthers (IsFileOf folder n) before after) (sym on) spares) shown has
+      go (Some way) some (on, shown) = one_shown before after most number next rest tail o way small (omega (arith, on, room)) on first some (subst (λ n. SparesOthers (IsFileOf folder n) before after) (sym on) spares) shown has
 
-  pub few_more : (before after : Contents) (number next : ℕ) (o : ImageOrdering) (r : Option Outcome) → IsPassed before after fences config kib image file audit folder number next o r → next ≤ number + 1
+  pub few_more : (before after : Contents) (number next : ℕ) (o : ImageOrdering) (r : Option Way) → IsPassed before after fences config kib image file audit folder number next o r → next ≤ number + 1
   few_more before after number next o None is = let same = is.0 in omega (arith, same)
-  few_more before after number next o (Some outcome) is = let on = is.0 in omega (arith, on)
+  few_more before after number next o (Some way) is = let on = is.0 in omega (arith, on)
 
   -- none is left
   pub all_shown : (now : Contents) (number : ℕ) (rest : List ImageOrdering) → rest ≡ [] → HasShown now number rest → AreShown now fences config kib image file audit folder

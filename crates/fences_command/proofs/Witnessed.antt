@@ -1,15 +1,19 @@
--- An outcome that shows that an ordering is needed is shown itself: by a search of the program without it.
-use Rattle.std.proofs.Common.{◌≡◌, ◌∷◌, [], All, Bool, List, None, Option, Some, false, if◌then◌else◌, refl, subst, suc, true, zero, ℕ}
+-- What shows that an ordering is needed is right itself: it shows an outcome, or a hart that stops, of the program without it.
+use Rattle.std.proofs.Common.{◌≡◌, ◌⊎◌, ◌∷◌, [], All, Bool, List, None, Option, Some, false, if◌then◌else◌, inl, inr, refl, subst, suc, true, zero, ℕ}
 use Rattle.std.proofs.lemmas.List.Elements.{All-head, All-tail}
 use Rattle.std.specs.Prelude.{slice_get}
-use Rattle.architecture_outcomes.specs.Outcomes.{IsWitnessed}
+use Rattle.architecture_outcomes.specs.Failings.{IsShown, IsShownBy}
+use Rattle.architecture_outcomes.specs.Outcomes.{IsWitnessed, IsWitnessedBy}
 use Rattle.architecture_outcomes.specs.declared.architecture.Architecture.{Architecture}
+use Rattle.architecture_outcomes.specs.declared.failing.Failing.{Failing}
 use Rattle.architecture_outcomes.specs.declared.outcome.Outcome.{Outcome}
+use Rattle.architecture_outcomes.specs.declared.outcome.Way.{Way}
 use Rattle.elf_loader.specs.Image.{Initial}
-use Rattle.fence_audit.specs.Answers.{IsSearchIn, refused_place}
-use Rattle.fence_audit.specs.Auditing.{outcome_at, shown_by, shown_in, shown_without}
+use Rattle.fence_audit.specs.Answers.{IsSearchIn}
+use Rattle.fence_audit.specs.Auditing.{shown_as, shown_by, shown_in, shown_without, way_to, way_to_stop}
 use Rattle.fence_audit.specs.Searches.{IsSearched, is_of, search_in}
 use Rattle.fence_audit.specs.declared.answers.Answer.{Answer}
+use Rattle.fence_audit.specs.declared.answers.Answer.TheVariants.{Bounded, Fewer, Other, Same, Stops}
 use Rattle.fence_audit.specs.declared.auditing.Audit.{Audit}
 use Rattle.fence_audit.specs.declared.searches.Search.{Search}
 use Rattle.fence_audit.specs.declared.searches.World.{World}
@@ -22,13 +26,13 @@ use Rattle.machine_types.specs.declared.config.Config.{Config}
 
 -- ---- of a list
 
-got_of : (P : Outcome → Type 0) (xs : List Outcome) (i : ℕ) (x : Outcome) → All P xs → slice_get xs i ≡ Some x → P x
-got_of P [] i x all is = cc
-got_of P (y ∷ ys) zero x all is = subst P (some_of is) (All-head P y ys all)
+got_of : (A : Type 0) (P : A → Type 0) (xs : List A) (i : ℕ) (x : A) → All P xs → slice_get xs i ≡ Some x → P x
+got_of A P [] i x all is = cc
+got_of A P (y ∷ ys) zero x all is = subst P (some_of is) (All-head P y ys all)
   where
-    some_of : ◌≡◌ {A = Option Outcome} (Some y) (Some x) → y ≡ x
+    some_of : ◌≡◌ {A = Option A} (Some y) (Some x) → y ≡ x
     some_of same = cc
-got_of P (y ∷ ys) (suc i) x all is = got_of P ys i x (All-tail P y ys all) is
+got_of A P (y ∷ ys) (suc i) x all is = got_of A P ys i x (All-tail P y ys all) is
 
 found_of : (P : Search → Type 0) (searches : List Search) (patches : List Patch) (s : Search) → All P searches → search_in searches patches ≡ Some s → P s
 found_of P [] patches s all is = cc
@@ -45,27 +49,51 @@ witnessed : (world : World) (image : Initial) (config : Config) (addresses : Lis
 witnessed Model image config addresses window limit found is = is.shown
 witnessed Machine image config addresses window limit found is = is.shown
 
--- the outcome is one of a program with words replaced, and shown so
-pub record IsShownOf (image : Initial) (config : Config) (addresses : List ℕ) (outcome : Outcome) : Type 0 where
+stopped : (world : World) (image : Initial) (config : Config) (addresses : List ℕ) (window limit : ℕ) (found : Architecture) → IsSearchIn world image config addresses window limit found → All (IsShown image config addresses) found.failures.items
+stopped Model image config addresses window limit found is = is.stopped
+stopped Machine image config addresses window limit found is = is.stopped
+
+-- it shows an outcome, or a hart that stops
+abbrev pub ShowsSome : Initial → Config → (addresses : List ℕ) → Way → Type 0
+ShowsSome image config addresses way = ((o : Outcome) × IsWitnessedBy image config addresses o way) ⊎ ((f : Failing) × IsShownBy image config addresses f.failure way)
+
+-- of a program with words replaced
+pub record IsShownOf (image : Initial) (config : Config) (addresses : List ℕ) (way : Way) : Type 0 where
   pub words : List Patch
   pub places : All (IsPatchOf image) words
-  pub shown : IsWitnessed (patched image words) config addresses outcome
+  pub shown : ShowsSome (patched image words) config addresses way
+
+module _ (image : Initial) (config : Config) (addresses : List ℕ) (found : Architecture) (outcomes : All (IsWitnessed image config addresses) found.outcomes.items) (stops : All (IsShown image config addresses) found.failures.items) where
+  by_outcome : (r : Option Outcome) (way : Way) → ((o : Outcome) → r ≡ Some o → IsWitnessed image config addresses o) → way_to r ≡ Some way → ShowsSome image config addresses way
+  by_outcome None way is = cc
+  by_outcome (Some o) way is = λ at.
+      let same : o.way ≡ way = cc in inl (o, subst (IsWitnessedBy image config addresses o) same (is o refl))
+
+  by_stop : (r : Option Failing) (way : Way) → ((f : Failing) → r ≡ Some f → IsShown image config addresses f) → way_to_stop r ≡ Some way → ShowsSome image config addresses way
+  by_stop None way is = cc
+  by_stop (Some f) way is = λ at.
+      let same : f.way ≡ way = cc in inr (f, subst (IsShownBy image config addresses f.failure) same (is f refl))
+
+  by_answer : (answer : Answer) (way : Way) → shown_as found answer ≡ Some way → ShowsSome image config addresses way
+  by_answer (Other place) way at = by_outcome (slice_get found.outcomes.items place) way (λ o is. got_of Outcome (IsWitnessed image config addresses) found.outcomes.items place o outcomes is) at
+  by_answer (Stops place) way at = by_stop (slice_get found.failures.items place) way (λ f is. got_of Failing (IsShown image config addresses) found.failures.items place f stops is) at
+  by_answer Same way at = let bad : ◌≡◌ {A = Option Way} None (Some way) = at in cc
+  by_answer (Fewer place) way at = let bad : ◌≡◌ {A = Option Way} None (Some way) = at in cc
+  by_answer Bounded way at = let bad : ◌≡◌ {A = Option Way} None (Some way) = at in cc
 
 module _ (world : World) (image : Initial) (config : Config) (addresses : List ℕ) (window limit : ℕ) (answers : Architecture → Answer) where
-  by_search : (s : Search) (outcome : Outcome) → IsSearched world image config addresses window limit answers s → shown_by s ≡ Some outcome → IsShownOf image config addresses outcome
-  by_search s outcome is shown = go (refused_place s.answer) shown
-    where
-      go : (place : Option ℕ) → outcome_at s.found.outcomes.items place ≡ Some outcome → IsShownOf image config addresses outcome
-      go None none = cc
-      go (Some i) at = record {
+  by_search : (s : Search) (way : Way) → IsSearched world image config addresses window limit answers s → shown_by s ≡ Some way → IsShownOf image config addresses way
+  by_search s way is at =
+      let image' = patched image s.patches.items in
+      record {
         words = s.patches.items;
         places = is.patches;
-        shown = got_of (IsWitnessed (patched image s.patches.items) config addresses) s.found.outcomes.items i outcome (witnessed world (patched image s.patches.items) config addresses window limit s.found is.found) at;
+        shown = by_answer image' config addresses s.found (witnessed world image' config addresses window limit s.found is.found) (stopped world image' config addresses window limit s.found is.found) s.answer way at;
       }
 
-  pub shown_of : (audit : Audit) (o : ImageOrdering) (outcome : Outcome) → All (IsSearched world image config addresses window limit answers) audit.searches.items → shown_without audit o ≡ Some outcome → IsShownOf image config addresses outcome
-  shown_of audit o outcome searched shown = go (search_in audit.searches.items (patches_without o audit.own.items)) refl shown
+  pub shown_of : (audit : Audit) (o : ImageOrdering) (way : Way) → All (IsSearched world image config addresses window limit answers) audit.searches.items → shown_without audit o ≡ Some way → IsShownOf image config addresses way
+  shown_of audit o way searched shown = go (search_in audit.searches.items (patches_without o audit.own.items)) refl shown
     where
-      go : (r : Option Search) → search_in audit.searches.items (patches_without o audit.own.items) ≡ r → shown_in r ≡ Some outcome → IsShownOf image config addresses outcome
+      go : (r : Option Search) → search_in audit.searches.items (patches_without o audit.own.items) ≡ r → shown_in r ≡ Some way → IsShownOf image config addresses way
       go None none at = cc
-      go (Some s) found at = by_search s outcome (found_of (IsSearched world image config addresses window limit answers) audit.searches.items (patches_without o audit.own.items) s searched found) at
+      go (Some s) found at = by_search s way (found_of (IsSearched world image config addresses window limit answers) audit.searches.items (patches_without o audit.own.items) s searched found) at

@@ -7,7 +7,6 @@ use Rattle.command_files.specs.Sizes.{script_for}
 use Rattle.command_settings.specs.declared.wanted.Fences.{Fences}
 use Rattle.elf_loader.specs.Image.{Initial}
 use Rattle.fence_audit.specs.Auditing.{shown_without}
-use Rattle.architecture_outcomes.specs.declared.outcome.Outcome.{Outcome}
 use Rattle.explorer.specs.declared.found.Realisation.{Realisation}
 use Rattle.explorer.specs.declared.found.Realisation.TheVariants.{Events, Limit, NoMemory, Unrealised}
 use Rattle.architecture_outcomes.specs.declared.outcome.Way.{Way}
@@ -72,7 +71,7 @@ AllSpare fences image folder = AreSpareTo fences folder (length (orderings_of im
 
 -- ---- what they have
 
--- the outcome's trace, where it is told by one, is within the limits of a trace's text
+-- the trace, where it is one, is within the limits of a trace's text
 abbrev pub HasText : Way → Type 0
 HasText (Machine script) = Unit {0}
 HasText (ModelAlone trace) = IsTrace trace.history
@@ -94,27 +93,27 @@ IsShownAt left fences config kib image file words folder number (Model trace) = 
 
 -- ---- for which orderings
 
--- an ordering, and an outcome that there is without it
+-- an ordering, and what shows that it is needed
 abbrev pub Needed : Type 0
-Needed = ImageOrdering × Outcome
+Needed = ImageOrdering × Way
 
-abbrev pub needed_with : ImageOrdering → Option Outcome → List Needed → List Needed
+abbrev pub needed_with : ImageOrdering → Option Way → List Needed → List Needed
 needed_with o None rest = rest
-needed_with o (Some outcome) rest = (o, outcome) ∷ rest
+needed_with o (Some way) rest = (o, way) ∷ rest
 
--- of these orderings those that are needed, as another outcome shows
+-- of these orderings those that are needed, as another outcome shows, or a hart that stops
 abbrev pub needed_in : Audit → List ImageOrdering → List Needed
 needed_in audit [] = []
 needed_in audit (o ∷ rest) = needed_with o (shown_without audit o) (needed_in audit rest)
 
 -- of the program without the ordering
 abbrev pub IsShownWithout : Contents → Fences → Config → (kib : ℕ) → Initial → (file : List ℕ) → Audit → FileName → ℕ → Needed → Type 0
-IsShownWithout left fences config kib image file audit folder number (o, outcome) = IsShownAt left fences config kib image file (patches_without o audit.own.items) folder number outcome.way
+IsShownWithout left fences config kib image file audit folder number (o, way) = IsShownAt left fences config kib image file (patches_without o audit.own.items) folder number way
 
--- where an outcome shows that the ordering is needed the next number's files show it, and else nothing was written
-abbrev pub IsPassed : (held left : Contents) → Fences → Config → (kib : ℕ) → Initial → (file : List ℕ) → Audit → FileName → (number next : ℕ) → ImageOrdering → Option Outcome → Type 0
+-- where something shows that the ordering is needed the next number's files show it, and else nothing was written
+abbrev pub IsPassed : (held left : Contents) → Fences → Config → (kib : ℕ) → Initial → (file : List ℕ) → Audit → FileName → (number next : ℕ) → ImageOrdering → Option Way → Type 0
 IsPassed held left fences config kib image file audit folder number next o None = (next ≡ number) × (left ≡ held)
-IsPassed held left fences config kib image file audit folder number next o (Some outcome) = (next ≡ number + 1) × IsShownWithout left fences config kib image file audit folder next (o, outcome)
+IsPassed held left fences config kib image file audit folder number next o (Some way) = (next ≡ number + 1) × IsShownWithout left fences config kib image file audit folder next (o, way)
 
 -- each has the files of its number, counted from a number on
 abbrev pub AreShownFrom : Contents → Fences → Config → (kib : ℕ) → Initial → (file : List ℕ) → Audit → FileName → ℕ → List Needed → Type 0
@@ -132,11 +131,11 @@ AreShownFor left fences config image file allowance None = Unit {0}
 AreShownFor left fences config image file (Kept audit) (Some folder) = AreShown left fences config fences.machine.memory image file audit folder.now
 AreShownFor left fences config image file (Broken missing) (Some folder) = Unit {0}
 
--- ---- what is known of the outcomes
+-- ---- what is known of what shows them
 
--- each has a text, where it is told by a trace
+-- each has a text, where it is a trace
 abbrev pub AreReadableOf : Audit → Type 0
-AreReadableOf audit = (o : ImageOrdering) (outcome : Outcome) → shown_without audit o ≡ Some outcome → HasText outcome.way
+AreReadableOf audit = (o : ImageOrdering) (way : Way) → shown_without audit o ≡ Some way → HasText way
 
 abbrev pub AreReadable : Allowance → Type 0
 AreReadable (Kept audit) = AreReadableOf audit

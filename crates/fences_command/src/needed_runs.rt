@@ -13,7 +13,7 @@ ghost use Rattle.search_files.specs.Folders.{HasName, IsInNamed, SparesOthers};
 ghost use Rattle.trace_text.specs.TraceLimits.{IsTrace};
 
 use crate::keeping::{changed, format_of};
-use architecture_outcomes::{Outcome, Way};
+use architecture_outcomes::Way;
 use command_files::{Fault, Files};
 use command_settings::Fences;
 use elf_loader::Image;
@@ -35,7 +35,7 @@ const SCRIPT: &str = "script";
 const IMAGE: &str = "image";
 
 /// Where a script leads the machine.
-const DESTINATION: &str = "an outcome of the program without an ordering";
+const DESTINATION: &str = "what shows that an ordering is needed";
 
 /// A file of the folder, by its number and what its name ends with.
 fn path(folder: Folder<'_>, number: usize, ending: &str) -> Result<String, AllocError>
@@ -219,8 +219,8 @@ impl<'a> Shelf<'a, '_> {
         Ok(())
     }
 
-    /// Writes the files of the next number for this ordering, if an outcome shows that it is needed, and gives the last number
-    /// that has files then.
+    /// Writes the files of the next number for this ordering, if an outcome or a hart that stops shows that it is needed, and
+    /// gives the last number that has files then.
     fn keep_ordering<F: Files>(
         &self,
         files: &mut F,
@@ -239,26 +239,26 @@ impl<'a> Shelf<'a, '_> {
         let Ok(shown) = shown_without(self.folder.alloc, audit, ordering) else {
             return Err(Fault::OutOfMemory);
         };
-        let Some(outcome) = shown else {
+        let Some(way) = shown else {
             return Ok(number);
         };
         let next = number + 1;
-        self.keep_outcome(files, next, audit, ordering, outcome)?;
+        self.keep_way(files, next, audit, ordering, way)?;
         Ok(next)
     }
 
-    /// Writes the files of a number for an ordering and an outcome that there is without it.
-    fn keep_outcome<F: Files>(
+    /// Writes the files of a number for an ordering and what shows that it is needed.
+    fn keep_way<F: Files>(
         &self,
         files: &mut F,
         number: usize,
         audit: &Audit,
         ordering: ImageOrdering,
-        outcome: &Outcome,
+        way: &Way,
     ) -> Result<(), Fault<'a>>
         requires memory { IsMemoryKib self.now.folder.kib }
-        requires readable { spec.HasText outcome.now.way }
-        ensures kept { OnOk result (spec.IsShownWithout (F.held files.new) self.now.wanted self.now.folder.config self.now.folder.kib self.now.image.now self.now.file.now audit.now self.now.folder.name.now number (ordering, outcome.now)) }
+        requires readable { spec.HasText way.now }
+        ensures kept { OnOk result (spec.IsShownWithout (F.held files.new) self.now.wanted self.now.folder.config self.now.folder.kib self.now.image.now self.now.file.now audit.now self.now.folder.name.now number (ordering, way.now)) }
         ensures told { IfErr result (IsFolderFault self.now.folder.name) }
         ensures spared { SparesOthers (spec.IsFileOf self.now.folder.name.now number) (F.held files.old) (F.held files.new) }
         ensures written { OnOk result (IfSome self.now.wanted.write (λ write. F.held files.new write.now ≡ F.held files.old write.now)) }
@@ -266,7 +266,7 @@ impl<'a> Shelf<'a, '_> {
         let Ok(words) = patches_without(self.folder.alloc, &audit.own, ordering) else {
             return Err(Fault::OutOfMemory);
         };
-        match &outcome.way {
+        match way {
             Way::Machine(script) => self.keep_run(files, number, &words, script),
             Way::ModelAlone(trace) | Way::Model(trace) => self.keep_trace(files, number, trace),
         }
@@ -314,7 +314,7 @@ impl<'a> Shelf<'a, '_> {
         folder.write(files, &path, &made)
     }
 
-    /// Writes the script that leads the machine to an outcome, if one was found.
+    /// Writes the script that leads the machine there, if one was found.
     fn keep_script<F: Files>(
         &self,
         files: &mut F,
@@ -337,7 +337,7 @@ impl<'a> Shelf<'a, '_> {
         }
     }
 
-    /// Writes the trace that shows an outcome.
+    /// Writes the trace.
     fn keep_trace<F: Files>(
         &self,
         files: &mut F,

@@ -5,4 +5,4 @@ pub returns : goal.returns
 returns g c =
     let is = c.explore_architecture.ensures in
     searched c.args.image.now c.args.config c.args.addresses.now c.args.window c.args.exploring.limit
-    c.explore_architecture.result is.shown is.machine is.alone is.allowed is.bounded is.order is.model is.window
+    c.explore_architecture.result is.shown is.machine is.alone is.allowed is.failing is.stopped is.bounded is.order is.model is.window

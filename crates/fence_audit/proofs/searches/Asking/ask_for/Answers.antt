@@ -2,7 +2,7 @@ use Rattle.std.proofs.Common.{◌≡◌, None, rules, subst, sym}
 use Rattle.std.proofs.lemmas.List.Elements.{All-push}
 use Rattle.fence_audit.proofs.Told.{first_asked}
 use Rattle.fence_audit.specs.Searches.{AreSearched, IsSearchedBy, search_in}
-use Rattle.fence_audit.proofs.searches.Asking.ask.Goals as goal
+use Rattle.fence_audit.proofs.searches.Asking.ask_for.Goals as goal
 
 pub returns-clause-asked : goal.returns-clause-asked
 returns-clause-asked g c =

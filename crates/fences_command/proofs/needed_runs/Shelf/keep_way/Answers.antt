@@ -5,7 +5,7 @@ use Rattle.fences_command.specs.Witnesses.{IsShownAt}
 use Rattle.image_orderings.specs.Programs.{patches_without}
 use Rattle.image_orderings.specs.declared.replacing.Patch.{Patch}
 use Rattle.search_files.proofs.Files.{on_ok}
-use Rattle.fences_command.proofs.needed_runs.Shelf.keep_outcome.Goals as goal
+use Rattle.fences_command.proofs.needed_runs.Shelf.keep_way.Goals as goal
 
 pub returns-in-Machine-clause-kept : goal.returns-in-Machine-clause-kept
 returns-in-Machine-clause-kept g c =
