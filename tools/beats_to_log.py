@@ -2,6 +2,7 @@
 """Writes the trace that `rvtl check --messages` judges from the beats of a run in a simulator.
 
 usage: tools/beats_to_log.py [--clients N] [--line 16|64] [--kib KIB] [--base ADDRESS] [--memory FILE] [BEATS]
+       tools/beats_to_log.py --log [--clients N] [--line 16|32|64|128] [BEATS]
 
 BEATS (or standard input) has a line for each beat that a port accepted (ready and valid), in the order of time, as a monitor
 in Chisel or Verilog prints it, numbers decimal or behind 0x:
@@ -14,7 +15,8 @@ SIZE is the logarithm of the bytes, DATA the beat's bytes as a number, the lowes
 Release's as an Acquire's. At the client's port A, C and E are sent, B and D taken; at the manager's the other way round. A
 message stands in the trace where its last beat was accepted, and is written then: `.. | tools/beats_to_log.py | rvtl check
 --messages -` judges a run as it goes on. An address becomes 0x80000000 and what it is behind ADDRESS (0);
-FILE has `ADDRESS DATA` for each line of memory that isn't all zero at the start, DATA as bytes.
+FILE has `ADDRESS DATA` for each line of memory that isn't all zero at the start, DATA as bytes. With --log a log of 1 to 64
+clients is written in place of a trace, with all addresses as they are, which tells nothing of memory at the start.
 
 Opcodes and params are those of TileLink 1.8.1. Opcodes that are none of TL-C's transfers are left out, and counted on standard
 error; so is AcquirePerm, which the trace has no word for."""
@@ -41,8 +43,8 @@ MESSAGES = {
 
 
 class Converter:
-    def __init__(self, base, line):
-        self.base, self.line = base, line
+    def __init__(self, shift, line):
+        self.shift, self.line = shift, line
         self.open = {}  # by port, channel, client and source: the address and the bytes of a message some of whose beats came
         self.asked = {}  # by client and source: the line of its Acquire
         self.released = {}
@@ -51,7 +53,7 @@ class Converter:
 
     def message(self, port, channel, client, name, param, line, data=None):
         way = "s" if (port == "client") == (channel in "ACE") else "t"
-        words = ["M", way, channel, str(client), name, f"0x{line - self.base + 0x80000000:08x}"]
+        words = ["M", way, channel, str(client), name, f"0x{line + self.shift:08x}"]
         return " ".join(words + ([param] if param else []) + ([data.hex()] if data is not None else []))
 
     def beat(self, port, channel, client, *fields):
@@ -104,21 +106,32 @@ def fields_of(words):
     return [number(w) for w in plain] + [None if data == "-" else (int(digits, 16), len(digits) // 2)]
 
 
+def head(given, shift):
+    if given.log:
+        print(f"rvtl-log 1 {given.clients} {given.line}")
+        return
+    second = given.clients > 4 or given.line == 64
+    print(f"rvtl-trace {2 if second else 1}")
+    print(f"T {given.clients} {given.kib} 0x80000000" + (f" {given.line}" if second else ""))
+    for words in sorted(line.split() for line in given.memory or []):
+        print(f"I 0x{number(words[0]) + shift:08x} {words[1]}")
+
+
 def main():
     parser = argparse.ArgumentParser(description=__doc__, formatter_class=argparse.RawDescriptionHelpFormatter)
     parser.add_argument("--clients", type=int, default=2)
-    parser.add_argument("--line", type=int, default=16, choices=[16, 64])
+    parser.add_argument("--log", action="store_true")
+    parser.add_argument("--line", type=int, default=16, choices=[16, 32, 64, 128])
     parser.add_argument("--kib", type=int, default=1024)
     parser.add_argument("--base", type=number, default=0)
     parser.add_argument("--memory", type=argparse.FileType(), default=None)
     parser.add_argument("beats", nargs="?", type=argparse.FileType(), default=sys.stdin)
     given = parser.parse_args()
-    second = given.clients > 4 or given.line == 64
-    print(f"rvtl-trace {2 if second else 1}")
-    print(f"T {given.clients} {given.kib} 0x80000000" + (f" {given.line}" if second else ""))
-    for words in sorted(line.split() for line in given.memory or []):
-        print(f"I 0x{number(words[0]) - given.base + 0x80000000:08x} {words[1]}")
-    converter = Converter(given.base, given.line)
+    if given.line in (32, 128) and not given.log:
+        parser.error("lines of 32 and of 128 bytes take --log")
+    shift = 0 if given.log else 0x80000000 - given.base
+    head(given, shift)
+    converter = Converter(shift, given.line)
     for place, text in enumerate(given.beats, 1):
         port, channel, client, *words = text.split()
         try:

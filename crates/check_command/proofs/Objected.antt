@@ -4,8 +4,10 @@ use Rattle.std.proofs.lemmas.List.{append-nil, take-append-drop, take_more}
 use Rattle.std.proofs.lemmas.Bool.{false≢true}
 use Rattle.std.specs.Io.KnownBytes.{Appends}
 use Rattle.std.specs.Result.{IsErr}
-use Rattle.check_command.specs.Breaches.{AreBreachLines, BeginsLines, IsBreachTold, WritesLines}
+use Rattle.check_command.specs.Breaches.{AreBreachLines, BeginsLines, IsBreachTold, WritesLines, breaches_told}
 use Rattle.check_command.specs.declared.objecting.Told.{Told}
+use Rattle.log_text.specs.FoundBreaches.{Breaches}
+use Rattle.log_text.specs.MessageVerdict.{MessageVerdict}
 use Rattle.log_text.specs.Profile.{Profile}
 use Rattle.log_text.specs.declared.place.LogText.{LogText}
 use Rattle.message_judge.specs.declared.breaches.Broken.{Broken}
@@ -44,6 +46,24 @@ module _ (IsLine : Broken → List ℕ → Type 0) (listed : List Broken) (a b c
 
 pub none_told : (IsLine : Broken → List ℕ → Type 0) (a : Option (List ℕ)) → (bytes : List ℕ) × AreBreachLines IsLine [] bytes × Appends a a bytes
 none_told IsLine a = ([], refl, appends_none a)
+
+-- the lines, or a beginning of them
+pub told_first : {T E : Type 0} (IsLine : Broken → List ℕ → Type 0) (breaches : List Broken) (a b : Option (List ℕ)) (r : Result T E) → WritesLines IsLine breaches a b r → BeginsLines IsLine breaches a b
+told_first IsLine breaches a b (Ok _) (bytes, are, sent) = record {
+  front = breaches;
+  rest = [];
+  parts = sym (append-nil breaches);
+  bytes = bytes;
+  lines = are;
+  begun = record { front = bytes; rest = []; parts = sym (append-nil bytes); sent = sent };
+}
+told_first IsLine breaches a b (Err _) begun = begun
+
+-- so of the breaches that were listed, by another name
+pub told_of_listed : {T E : Type 0} (IsLine : Broken → List ℕ → Type 0) (verdict : MessageVerdict) (found listed : Option Breaches) (a b : Option (List ℕ)) (r : Result T E) → found ≡ listed
+    → WritesLines IsLine (breaches_told verdict found) a b r → BeginsLines IsLine (breaches_told verdict listed) a b
+told_of_listed IsLine verdict found listed a b r same wrote =
+    told_first IsLine (breaches_told verdict listed) a b r (subst (λ (x : Option Breaches). WritesLines IsLine (breaches_told verdict x) a b r) same wrote)
 
 -- what is told of a breach, with its parts by other names
 pub told_as : (profile : Profile) (text : LogText) (broken : Broken) (h k : ℕ) (log entries : List Logged) (found told : Option Told) → h ≡ k → log ≡ entries → found ≡ told

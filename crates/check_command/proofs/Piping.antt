@@ -1,11 +1,11 @@
 -- What was read of standard input as it came.
-use Rattle.std.proofs.Common.{ℕ, ◌≡◌, ◌++◌, ◌∙◌, [], Bool, IfSome, List, None, Option, Some, ap, append_assoc, drop, false, length, refl, subst, sym, take}
+use Rattle.std.proofs.Common.{ℕ, ◌≡◌, ◌++◌, ◌∙◌, [], Bool, Err, IfOk, IfSome, List, None, Ok, Option, Result, Some, ap, append_assoc, drop, false, length, refl, subst, sym, take}
 use Rattle.std.specs.Prelude.{◌==◌}
 use Rattle.std.specs.List.{list_any}
 use Rattle.std.proofs.lemmas.List.{append-nil, take-append-drop}
 use Rattle.std.specs.Io.KnownBytes.{Consumes, IsAtEnd}
-use Rattle.check_command.specs.Messages.{IsMeantFault}
-use Rattle.check_command.specs.Piped.{IsBeginning, IsBrokenBy, IsLongFirstOf}
+use Rattle.check_command.specs.Messages.{IsMeantFault, IsUnlawful}
+use Rattle.check_command.specs.Piped.{IsBeginning, IsBrokenBy, IsLogOf, IsLongFirstOf}
 use Rattle.check_command.specs.declared.messages.MessageCheck.{MessageCheck}
 use Rattle.check_command.specs.declared.messages.ReadLog.{ReadLog}
 use Rattle.command_files.specs.Contents.{Contents, HasLongFirstLine, IsUnread}
@@ -44,9 +44,16 @@ meant_of skip bytes source name fault same told = subst (λ (b : List ℕ). IsMe
 pub handed_on : (held now : Contents) (name : List ℕ) (left : Option (List ℕ)) (bytes slice : List ℕ) → now ≡ held → slice ≡ bytes → Consumes (held name) left bytes → Consumes (now name) left slice
 handed_on held now name left bytes slice spared same taken = subst (λ (h : Contents). Consumes (h name) left slice) (sym spared) (subst (λ (b : List ℕ). Consumes (held name) left b) (sym same) taken)
 
-pub broken_found : (bytes slice : List ℕ) (check : MessageCheck) (found : Option ReadLog) (log : ReadLog) → slice ≡ bytes → found ≡ Some log → IfSome found (λ l. IsBrokenBy slice check l.trace.history) → IsBrokenBy bytes check log.trace.history
+pub broken_found : (bytes slice : List ℕ) (check : MessageCheck) (found : Option ReadLog) (log : ReadLog) → slice ≡ bytes → found ≡ Some log → IfSome found (IsBrokenBy slice check) → IsBrokenBy bytes check log
 broken_found bytes slice check found log same is broken =
-    subst (λ (b : List ℕ). IsBrokenBy b check log.trace.history) same (subst (λ (o : Option ReadLog). IfSome o (λ l. IsBrokenBy slice check l.trace.history)) is broken)
+    subst (λ (b : List ℕ). IsBrokenBy b check log) same (subst (λ (o : Option ReadLog). IfSome o (IsBrokenBy slice check)) is broken)
+
+-- the lines that are whole are a beginning of the bytes
+pub broken_in : {E : Type 0} (bytes lines : List ℕ) (check : MessageCheck) (r : Result (Option ReadLog) E) → IsBeginning bytes lines
+    → IfOk r (λ found. IfSome found (λ log. IsLogOf check.skip lines log × IsUnlawful check.profile log.log)) → IfOk r (λ found. IfSome found (IsBrokenBy bytes check))
+broken_in bytes lines check (Ok (Some log)) begins (is, unlawful) = (lines, begins, is, unlawful)
+broken_in bytes lines check (Ok None) begins found = tt
+broken_in bytes lines check (Err error) begins found = tt
 
 -- a file that can't be read is no text
 pub read_is_text : (held : Contents) (name : Name) (fault : Fault) → IsReadFault name fault → IsTextFault held name fault

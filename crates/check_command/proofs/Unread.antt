@@ -2,6 +2,7 @@
 use Rattle.std.proofs.Common.{◌≡◌, Bool, ◌∙◌, ◌<◌, ◌≤◌, ◌-◌, ◌⊎◌, ◌↔◌, ◌++◌, ℕ, IfSome, List, None, Option, Some, ap, arith, drop, inl, inr, length, refl, subst, sym, take}
 use Rattle.std.proofs.lemmas.List.{length-drop, take-append-drop, take_all}
 use Rattle.check_command.specs.Checking.{GoOnBehindATrace, IsCheckFault, IsNoTraceText, IsTraceFault}
+use Rattle.check_command.specs.Logs.{IsNoText, IsTextFaultOf}
 use Rattle.check_command.specs.Messages.{IsLogFault, IsMeantFault, at_source, sourced, text_meant}
 use Rattle.command_files.specs.Faults.{Name}
 use Rattle.command_files.specs.Contents.{Contents, HoldsBytes}
@@ -52,14 +53,14 @@ module _ (held : Contents) (name : Name) (bytes : List ℕ) (holds : HoldsBytes 
       subst (IsLogFault held skip name) (sym at) (refl, inr (of_file (held name.now) bytes NoLogAt holds (subst NoLogAt same (error, refl, none))))
     where
       NoLogAt : List ℕ → Type 0
-      NoLogAt known = (there : TextError) × (at_source skip source error ≡ at_source skip known there) × IsNoTraceText (text_meant skip known) there
+      NoLogAt known = (there : TextError) × (at_source skip source error ≡ at_source skip known there) × IsNoText (text_meant skip known) there
   log_told skip source fault same (inr (inl (at, more))) =
       subst (IsLogFault held skip name) (sym at) (refl, of_file (held name.now) bytes (λ known. GoOnBehindATrace (text_meant skip known)) holds (subst (λ known. GoOnBehindATrace (text_meant skip known)) same more))
   log_told skip source fault same (inr (inr at)) = subst (IsLogFault held skip name) (sym at) tt
 
 -- a fault of what is meant is told at its line of the file
-pub meant_told : (skip : Bool) (source text : List ℕ) (name : Name) (fault told : Fault) → text ≡ text_meant skip source → told ≡ sourced skip source fault → IsTraceFault text name fault → IsMeantFault skip source name told
-meant_told skip source text name fault told is same (inl (error, at, none)) = inl (error, same ∙ ap (sourced skip source) at, subst (λ t. IsNoTraceText t error) is none)
+pub meant_told : (skip : Bool) (source text : List ℕ) (name : Name) (fault told : Fault) → text ≡ text_meant skip source → told ≡ sourced skip source fault → IsTextFaultOf text name fault → IsMeantFault skip source name told
+meant_told skip source text name fault told is same (inl (error, at, none)) = inl (error, same ∙ ap (sourced skip source) at, subst (λ t. IsNoText t error) is none)
 meant_told skip source text name fault told is same (inr (inl (at, more))) = inr (inl (same ∙ ap (sourced skip source) at, subst GoOnBehindATrace is more))
 meant_told skip source text name fault told is same (inr (inr at)) = inr (inr (same ∙ ap (sourced skip source) at))
 

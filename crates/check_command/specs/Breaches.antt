@@ -1,6 +1,8 @@
 -- What is told of a message that breaks a rule.
-use Rattle.std.specs.Prelude.{◌≡◌, ◌⊎◌, ℕ, List, [], ◌∷◌, ◌++◌, ◌==◌, Err, None, Ok, Option, Result, Some, codes, if◌then◌else◌, length, option_map, slice_get}
+use Rattle.std.specs.Prelude.{◌≡◌, ◌⊎◌, ℕ, List, [], ◌∷◌, ◌++◌, ◌==◌, Err, None, Ok, Option, Result, Some, codes, if◌then◌else◌, option_map, slice_get}
 use Rattle.std.specs.Io.KnownBytes.{Appends}
+use Rattle.check_command.specs.Logs.{clients_in, messages_in}
+use Rattle.check_command.specs.declared.log.Log.{Log}
 use Rattle.check_command.specs.declared.objecting.Cause.{Cause}
 use Rattle.check_command.specs.declared.objecting.Cause.TheVariants as cause
 use Rattle.check_command.specs.declared.objecting.Told.{Told}
@@ -21,7 +23,6 @@ use Rattle.message_judge.specs.declared.verdict.MessageBreach.{MessageBreach}
 use Rattle.message_judge.specs.declared.verdict.MessageBreach.TheVariants.{Incoherent, Unanswered, Unlawful, Unwritten}
 use Rattle.message_judge.specs.declared.verdict.MessageVerdict.TheVariants.{Lawful, Unlawful as Breaks}
 use Rattle.text_fields.specs.Writing.{Begins}
-use Rattle.trace_recorder.specs.History.{History}
 use Rattle.trace_recorder.specs.declared.logged.Logged.{Logged}
 
 abbrev pub AsObjection : (Option Objection → Type 0) → Option Cause → Type 0
@@ -81,9 +82,9 @@ told_line file None = []
 told_line file (Some told) = (codes "rvtl: " ++ (file ++ codes ": ")) ++ place_line told
 
 -- the bytes are the line that tells this breach
-pub record IsBreachLine (profile : Profile) (trace : History) (text : LogText) (file : List ℕ) (broken : Broken) (bytes : List ℕ) : Type 0 where
+pub record IsBreachLine (profile : Profile) (log : Log) (text : LogText) (file : List ℕ) (broken : Broken) (bytes : List ℕ) : Type 0 where
   pub told : Option Told
-  pub found : IsBreachTold profile (length trace.statuses) trace.log text broken told
+  pub found : IsBreachTold profile (clients_in log) (messages_in log) text broken told
   pub line : bytes ≡ told_line file told
 
 -- the bytes are the lines of these breaches, one after another

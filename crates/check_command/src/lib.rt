@@ -2,6 +2,7 @@
 #![tactic(auto)]
 
 mod checking;
+mod log;
 mod messages;
 mod objecting;
 mod piped;

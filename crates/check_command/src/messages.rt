@@ -6,8 +6,9 @@ ghost use Rattle.std.specs.List.{list_any};
 ghost use Rattle.text_fields.specs.Writing.{Writes};
 ghost use Rattle.log_text.specs.Verdicts.{told_text};
 ghost use Rattle.check_command.specs.Breaches.{IsBreachLine, WritesLines, breaches_told, told_line};
-ghost use Rattle.check_command.specs.Messages.{AreListed, IsLogCutOff, HoldsLog, IsLogFault, IsLogJudged, IsMeantFault, IsTraceVerdict, are_lawful_by, is_unanswered, memory_told, sourced, text_meant, with_unwritten};
-ghost use Rattle.check_command.specs.Piped.{HasPiped, IsLogOf};
+ghost use Rattle.check_command.specs.Logs.{IsText, memory_told};
+ghost use Rattle.check_command.specs.Messages.{AreListed, AreObjected, IsLogCutOff, IsLogFault, IsLogJudged, IsLogVerdict, IsMeantFault, are_lawful_by, is_unanswered, sourced, text_meant, with_unwritten};
+ghost use Rattle.check_command.specs.Piped.{HasPiped, IsLogOf, IsLogRead};
 ghost use Rattle.log_text.specs.Ending as ending;
 ghost use Rattle.log_text.specs.Meant as meaning;
 ghost use Rattle.log_text.specs.Names.{without_names};
@@ -15,17 +16,14 @@ ghost use Rattle.log_text.specs.Laws.{IsVerdict};
 ghost use Rattle.command_files.specs.Contents.{is_input};
 ghost use Rattle.command_files.specs.Faults.{IsTextFault, LeavesAtFault};
 ghost use Rattle.command_files.specs.Messages.{is_plain};
-ghost use Rattle.trace_text.specs.TraceLimits.{IsTrace};
-ghost use Rattle.trace_text.specs.Traces as traces;
 
+use crate::log::{Log, whole_text};
 use crate::objecting::{Told, told_of};
 use crate::piped::{Piped, piped_log};
-use crate::reading::whole_trace;
 use command_files::{Fault, Files, put_named, remark, text_in};
 use elf_loader::Image;
 use log_text::message_judge::{
     Breaches, Broken, MessageBreach, MessageVerdict, Profile, judge_ended, judge_messages,
-    list_breaches,
 };
 use log_text::{
     LogText, Place, Unanswered, end_text, foreign_messages, meant_text, misnamed_line, put_told,
@@ -38,7 +36,7 @@ use text_fields::{Piece, put, put_pieces};
 use trace_operations::are_runs;
 use trace_recorder::{Logged, Trace};
 use trace_text::TextError;
-use written_lines::{Unwritten, unwritten_in};
+use written_lines::Unwritten;
 
 /// What is asked of the messages of a log.
 #[derive(Clone, Copy, Debug, PartialEq, Eq)]
@@ -53,10 +51,11 @@ pub struct MessageCheck {
     pub skip: bool,
 }
 
-/// Reads a trace, or one that ends behind its messages, whose messages may have names, and which may say by S lines
-/// what harts hold at the start, judges its log by the rules of
-/// the lawful log, as the profile asks them, and of the coherent log, and prints the verdict on `out`. Memory begins as the trace's I lines say;
-/// where there is none with bytes that aren't known. Where the log has ended, each question has to have its answer too;
+/// Reads a trace, or one that ends behind its messages, or a log of 1 to 64 clients and lines of 16 to 128 bytes
+/// (`wide_logs`), whose messages may have names, and which may say by S lines what harts hold at the start, judges its
+/// log by the rules of the lawful log, as the profile asks them, and of the coherent log, and prints the verdict on
+/// `out`. Lines of 32 and 128 bytes are judged as two halves. Memory begins as the trace's I lines say; where there is
+/// none with bytes that aren't known. Where the log has ended, each question has to have its answer too;
 /// where it may go on, a remark tells of those that have none. Where the log isn't lawful, the line and the name of the
 /// message that breaks a rule, and what stood against it, go to `err`. Where all are asked for, the first 100 messages
 /// that break a rule are told so, each judged behind all messages before it, and how many more there are.
@@ -73,22 +72,23 @@ pub fn check_messages<'a, F: Files, O: Write, E: Write>(
         (IsLogCutOff (F.held files.old) file.entry.now check (O.contents out.old) (O.contents out.new))) }
     ensures told { IfErr result (IsLogFault (F.held files.old) check.skip file.entry) }
     ensures spared { F.held files.new ≡ F.held files.old }
+    ensures noted { IfOk result (λ verdict. AreObjected (F.held files.old) file.entry.now check verdict (E.contents err.old) (E.contents err.new)) }
     ensures quiet { IfOk result (λ verdict. verdict ≡ MessageVerdict.Lawful → E.contents err.new ≡ E.contents err.old) }
     ensures silent { OnErr result (E.contents err.new ≡ E.contents err.old) }
 {
     let read = read_log(alloc, files, file, check)?;
-    let Ok(answer) = answered(alloc, &read.trace, check) else {
+    let Ok(answer) = answered(alloc, &read.log, check) else {
         return Err(Fault::OutOfMemory);
     };
     let verdict = answer.verdict;
     let text = read.text(check.skip);
-    remark_judged(alloc, files, text, &read.trace, verdict);
+    remark_judged(alloc, files, text, &read.log, verdict);
     if let Err(error) = print(verdict, answer.breaches.as_ref(), out) {
         return Err(Fault::writing(error));
     }
     let log = JudgedLog {
         file,
-        trace: &read.trace,
+        log: &read.log,
         profile: check.profile,
     };
     // Standard error has no other place to tell that it takes no more.
@@ -102,11 +102,15 @@ pub(crate) struct ReadLog {
     pub(crate) bytes: Vec<u8>,
     /// What the bytes stand for, with names.
     pub(crate) meant: Vec<u8>,
-    pub(crate) trace: Trace,
+    pub(crate) log: Log,
 }
 
 impl ReadLog {
-    fn text(&self, skip: bool) -> LogText<'_> {
+    fn text(&self, skip: bool) -> LogText<'_>
+        ensures source { result.source.now ≡ self.now.bytes.items }
+        ensures skip { result.skip ≡ skip }
+        ensures meant { result.meant.now ≡ self.now.meant.items }
+    {
         LogText {
             source: self.bytes.as_slice(),
             skip,
@@ -123,7 +127,7 @@ fn read_log<'a, F: Files>(
     file: &'a str,
     check: MessageCheck,
 ) -> Result<ReadLog, Fault<'a>>
-    ensures read { IfOk result (λ read. HoldsLog (F.held files.old) file.entry.now check read.trace.history) }
+    ensures read { IfOk result (IsLogRead (F.held files.old) file.entry.now check) }
     ensures told { IfErr result (IsLogFault (F.held files.old) check.skip file.entry) }
     ensures reading { IfErr result (λ fault. fault ≢ Fault.CannotWrite) }
     ensures spared { F.held files.new ≡ F.held files.old }
@@ -171,7 +175,7 @@ fn log_in<'a, F: Files>(
     bytes: Vec<u8>,
     skip: bool,
 ) -> Result<ReadLog, Fault<'a>>
-    ensures read { IfOk result (λ read. IsLogOf skip bytes.items read.trace.history) }
+    ensures read { IfOk result (IsLogOf skip bytes.items) }
     ensures told { IfErr result (IsMeantFault skip bytes.items file.entry) }
     ensures spared { F.held files.new ≡ F.held files.old }
 {
@@ -180,15 +184,11 @@ fn log_in<'a, F: Files>(
         return Err(Fault::OutOfMemory);
     };
     remark_skipped(alloc, files, skip, source);
-    let trace = whole_log(alloc, files, file, source, meant.as_slice(), skip)?;
-    Ok(ReadLog {
-        bytes,
-        meant,
-        trace,
-    })
+    let log = whole_log(alloc, files, file, source, meant.as_slice(), skip)?;
+    Ok(ReadLog { bytes, meant, log })
 }
 
-/// The trace that is meant by the bytes of the file. Where it is none, what is wrong is remarked.
+/// The log that is meant by the bytes of the file. Where it is none, what is wrong is remarked.
 fn whole_log<'a, F: Files>(
     alloc: Global,
     files: &mut F,
@@ -196,17 +196,17 @@ fn whole_log<'a, F: Files>(
     bytes: &[u8],
     meant: &[u8],
     skip: bool,
-) -> Result<Trace, Fault<'a>>
+) -> Result<Log, Fault<'a>>
     requires { meant.now ≡ meaning.meant skip bytes.now }
-    ensures read { IfOk result (λ trace. IsTrace trace.history × (text_meant skip bytes.now ≡ traces.text trace.history)) }
+    ensures read { IfOk result (IsText (text_meant skip bytes.now)) }
     ensures told { IfErr result (IsMeantFault skip bytes.now file.entry) }
     ensures spared { F.held files.new ≡ F.held files.old }
 {
     let Ok(text) = text_meant(alloc, meant) else {
         return Err(Fault::OutOfMemory);
     };
-    match whole_trace(alloc, files, file, text.as_slice()) {
-        Ok(trace) => Ok(trace),
+    match whole_text(alloc, files, file, text.as_slice()) {
+        Ok(log) => Ok(log),
         Err(fault) => {
             remark_misnamed(alloc, files, bytes);
             Err(sourced(fault, bytes, skip))
@@ -231,7 +231,7 @@ fn sourced<'a>(fault: Fault<'a>, bytes: &[u8], skip: bool) -> Fault<'a>
     }
 }
 
-/// The text of the trace that is meant, where messages may have names.
+/// The text of the log that is meant, where messages may have names.
 pub(crate) fn text_meant(alloc: Global, meant: &[u8]) -> Result<Vec<u8>, AllocError>
     ensures { IfOk result (λ text. text.items ≡ ending.ended (without_names meant.now)) }
 {
@@ -297,53 +297,52 @@ impl Drop for Answer {
     }
 }
 
-/// The verdict on a trace's log, and its breaches where they are asked for.
-fn answered(alloc: Global, trace: &Trace, check: MessageCheck) -> Result<Answer, AllocError>
-    ensures verdict { IfOk result (λ answer. IsTraceVerdict check.ended check.profile trace.now.history answer.verdict) }
-    ensures breaches { IfOk result (λ answer. AreListed check.all check.profile (memory_told trace.now.history.image) trace.now.history.log answer.breaches) }
+/// The verdict on a log, and its breaches where they are asked for.
+fn answered(alloc: Global, log: &Log, check: MessageCheck) -> Result<Answer, AllocError>
+    ensures verdict { IfOk result (λ answer. IsLogVerdict check.ended check.profile log.now answer.verdict) }
+    ensures breaches { IfOk result (λ answer. AreListed check.all check.profile log.now answer.breaches) }
 {
-    let verdict = judged(alloc, trace, check.profile, check.ended)?;
-    let breaches = listed(alloc, trace, check.profile, check.all)?;
+    let verdict = judged(alloc, log, check.profile, check.ended)?;
+    let breaches = listed(alloc, log, check.profile, check.all)?;
     Ok(Answer { verdict, breaches })
 }
 
-/// The breaches of a trace's log by the profile's rules, where they are asked for.
+/// The breaches of a log by the profile's rules, where they are asked for.
 fn listed(
     alloc: Global,
-    trace: &Trace,
+    log: &Log,
     profile: Profile,
     all: bool,
 ) -> Result<Option<Breaches>, AllocError>
-    ensures { IfOk result (AreListed all profile (memory_told trace.now.history.image) trace.now.history.log) }
+    ensures { IfOk result (AreListed all profile log.now) }
 {
     if !all {
         return Ok(None);
     }
-    let memory = memory_at_start(trace);
-    let breaches = list_breaches(alloc, profile, memory, trace.log())?;
+    let breaches = log.breaches(alloc, profile)?;
     Ok(Some(breaches))
 }
 
-/// The verdict on a trace: that on its messages, and where none of them breaks another rule, whether the bytes that harts
+/// The verdict on a log: that on its messages, and where none of them breaks another rule, whether the bytes that harts
 /// send are those that they were granted and wrote.
 fn judged(
     alloc: Global,
-    trace: &Trace,
+    log: &Log,
     profile: Profile,
     ended: bool,
 ) -> Result<MessageVerdict, AllocError>
-    ensures { IfOk result (IsTraceVerdict ended profile trace.now.history) }
+    ensures { IfOk result (IsLogVerdict ended profile log.now) }
 {
-    let verdict = by_messages(alloc, trace, profile, ended)?;
+    let verdict = log.verdict(alloc, profile, ended)?;
     if !are_lawful_by(verdict) {
         return Ok(verdict);
     }
-    let unwritten = unwritten_in(alloc, trace)?;
+    let unwritten = log.unwritten(alloc)?;
     Ok(with_unwritten(verdict, unwritten))
 }
 
 /// Whether each message keeps each rule of messages, by a verdict on them.
-fn are_lawful_by(verdict: MessageVerdict) -> bool
+pub(crate) fn are_lawful_by(verdict: MessageVerdict) -> bool
     ensures { result ≡ are_lawful_by verdict }
 {
     match verdict {
@@ -358,7 +357,7 @@ fn is_unanswered(breach: MessageBreach) -> bool
     matches!(breach, MessageBreach::Unanswered)
 }
 
-/// The verdict on a trace whose messages are lawful, and in which such a byte is found, or none.
+/// The verdict on a log whose messages are lawful, and in which such a byte is found, or none.
 fn with_unwritten(verdict: MessageVerdict, found: Option<Unwritten>) -> MessageVerdict
     requires { are_lawful_by verdict ≡ true }
     ensures { result ≡ with_unwritten found verdict }
@@ -375,7 +374,7 @@ fn with_unwritten(verdict: MessageVerdict, found: Option<Unwritten>) -> MessageV
 }
 
 /// The verdict on a trace's log by the profile's rules, which has ended or may go on.
-fn by_messages(
+pub(crate) fn by_messages(
     alloc: Global,
     trace: &Trace,
     profile: Profile,
@@ -396,12 +395,12 @@ fn remark_judged<F: Files>(
     alloc: Global,
     files: &mut F,
     text: LogText<'_>,
-    trace: &Trace,
+    log: &Log,
     verdict: MessageVerdict,
 )
     ensures { F.held files.new ≡ F.held files.old }
 {
-    if trace.log().is_empty() {
+    if log.messages().is_empty() {
         remark(
             alloc,
             files,
@@ -409,8 +408,10 @@ fn remark_judged<F: Files>(
         );
     }
     if verdict == MessageVerdict::Lawful {
-        remark_no_run(alloc, files, trace);
-        remark_open(alloc, files, text, trace.log());
+        if let Log::Trace(trace) = log {
+            remark_no_run(alloc, files, trace);
+        }
+        remark_open(alloc, files, text, log.messages());
     }
 }
 
@@ -503,11 +504,11 @@ fn print<O: Write>(
     out.flush()
 }
 
-/// A trace's log as it stands in a file, and by whose rules it was judged.
+/// A log as it stands in a file, and by whose rules it was judged.
 #[derive(Clone, Copy)]
 struct JudgedLog<'a> {
     file: &'a str,
-    trace: &'a Trace,
+    log: &'a Log,
     profile: Profile,
 }
 
@@ -521,7 +522,7 @@ fn object<E: Write>(
     err: &mut E,
 ) -> io::Result<()>
     ensures lawful { verdict ≡ MessageVerdict.Lawful → E.contents err.new ≡ E.contents err.old }
-    ensures told { IsTrue (is_plain log.entry.file.now) → WritesLines (IsBreachLine log.entry.profile log.entry.trace.now.history text.entry log.entry.file.now)
+    ensures told { IsTrue (is_plain log.entry.file.now) → WritesLines (IsBreachLine log.entry.profile log.entry.log.now text.entry log.entry.file.now)
         (breaches_told verdict (option_copied breaches.entry)) (E.contents err.old) (E.contents err.new) result }
 {
     match verdict {
@@ -539,7 +540,7 @@ fn put_listed<E: Write>(
     listed: &[Broken],
     err: &mut E,
 ) -> io::Result<()>
-    ensures { IsTrue (is_plain log.entry.file.now) → WritesLines (IsBreachLine log.entry.profile log.entry.trace.now.history text.entry log.entry.file.now)
+    ensures { IsTrue (is_plain log.entry.file.now) → WritesLines (IsBreachLine log.entry.profile log.entry.log.now text.entry log.entry.file.now)
         listed.now (E.contents err.old) (E.contents err.new) result }
 {
     for broken in listed {
@@ -555,11 +556,11 @@ fn put_breach<E: Write>(
     broken: Broken,
     err: &mut E,
 ) -> io::Result<()>
-    ensures { IsTrue (is_plain log.entry.file.now) → (line : List ℕ) × IsBreachLine log.entry.profile log.entry.trace.now.history text.entry log.entry.file.now broken line
+    ensures { IsTrue (is_plain log.entry.file.now) → (line : List ℕ) × IsBreachLine log.entry.profile log.entry.log.now text.entry log.entry.file.now broken line
         × Writes (E.contents err.old) (E.contents err.new) line result }
 {
-    let harts = log.trace.harts() as u8;
-    match told_of(log.trace.log(), log.profile, harts, text, broken) {
+    let clients = log.log.clients();
+    match told_of(log.log.messages(), log.profile, clients, text, broken) {
         Some(told) => put_line(log.file, &told, err),
         None => Ok(()),
     }

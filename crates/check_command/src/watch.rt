@@ -3,22 +3,25 @@
 ghost use Rattle.std.specs.Prelude.{◌≡◌, ◌≤◌, IfOk, IfSome, OnOk, length};
 ghost use Rattle.check_command.specs.Messages.{IsUnlawful, text_meant};
 ghost use Rattle.check_command.specs.Piped.{IsBeginning, IsBrokenBy, IsLogOf};
+ghost use Rattle.check_command.specs.Watching.{HaveJudged};
 ghost use Rattle.log_text.specs.Following.{HasJudged};
 
-use crate::messages::{MessageCheck, ReadLog, memory_at_start, text_meant};
+use crate::log::{Log, is_wide, log_in_text};
+use crate::messages::{MessageCheck, ReadLog, are_lawful_by, text_meant};
 use elf_loader::Image;
 use log_text::meant_text;
-use log_text::message_judge::{Judge, MessageVerdict, Profile, judge_messages};
+use log_text::message_judge::{Judge, Profile};
 use std::alloc::{AllocError, Global};
-use trace_recorder::{Logged, Trace};
-use trace_text::read_trace;
+use trace_recorder::Logged;
 
 /// What came so far, up to the last line that is whole.
 #[derive(Drop)]
 pub(crate) struct Watch {
     judge: Judge,
+    /// What judges the bytes of second halves, where lines have halves.
+    halves: Judge,
     /// What stands before the first message, once that has come.
-    start: Option<Trace>,
+    start: Option<Log>,
     /// How many bytes were judged.
     seen: usize,
     /// What came is no log, so that no more of it is judged as it comes.
@@ -28,10 +31,11 @@ pub(crate) struct Watch {
 impl Watch {
     /// Where nothing came yet.
     pub(crate) fn new(alloc: Global) -> Watch
-        ensures { HasJudged result.judge }
+        ensures { HaveJudged result }
     {
         Watch {
             judge: Judge::new(alloc),
+            halves: Judge::new(alloc),
             start: None,
             seen: 0,
             is_blind: false,
@@ -46,9 +50,9 @@ impl Watch {
         bytes: &[u8],
         check: MessageCheck,
     ) -> Result<Option<ReadLog>, AllocError>
-        requires { HasJudged self.old.judge }
-        ensures broken { IfOk result (λ found. IfSome found (λ log. IsBrokenBy bytes.now check log.trace.history)) }
-        ensures judged { IfOk result (λ found. HasJudged self.new.judge) }
+        requires { HaveJudged self.old }
+        ensures broken { IfOk result (λ found. IfSome found (IsBrokenBy bytes.now check)) }
+        ensures judged { IfOk result (λ found. HaveJudged self.new) }
     {
         let lines = whole_lines(bytes);
         if self.finds_breach(alloc, lines, check)? {
@@ -64,8 +68,8 @@ impl Watch {
         lines: &[u8],
         check: MessageCheck,
     ) -> Result<bool, AllocError>
-        requires { HasJudged self.old.judge }
-        ensures { OnOk result (HasJudged self.new.judge) }
+        requires { HaveJudged self.old }
+        ensures { OnOk result (HaveJudged self.new) }
     {
         if self.is_blind {
             return Ok(false);
@@ -84,26 +88,27 @@ impl Watch {
         lines: &[u8],
         check: MessageCheck,
     ) -> Result<bool, AllocError>
-        requires { HasJudged self.old.judge }
-        ensures { OnOk result (HasJudged self.new.judge) }
+        requires { HaveJudged self.old }
+        ensures { OnOk result (HaveJudged self.new) }
     {
         let Some(head) = before_messages(lines) else {
             return Ok(false);
         };
-        let Some(log) = log_of(alloc, head, check.skip)? else {
+        let Some(read) = log_of(alloc, head, check.skip)? else {
             self.is_blind = true;
             return Ok(false);
         };
-        let memory = memory_at_start(&log.trace);
-        let found = has_breach(
+        let memory = read.log.memory();
+        let found = has_breach_in(
             alloc,
             &mut self.judge,
+            &mut self.halves,
             check.profile,
             memory,
-            log.trace.log(),
+            &read.log,
         )?;
         self.seen = head.len();
-        self.start = Some(log.trace);
+        self.start = Some(read.log);
         Ok(found)
     }
 
@@ -114,8 +119,8 @@ impl Watch {
         lines: &[u8],
         check: MessageCheck,
     ) -> Result<bool, AllocError>
-        requires { HasJudged self.old.judge }
-        ensures { OnOk result (HasJudged self.new.judge) }
+        requires { HaveJudged self.old }
+        ensures { OnOk result (HaveJudged self.new) }
     {
         let Some(start) = &self.start else {
             return Ok(false);
@@ -123,18 +128,21 @@ impl Watch {
         if lines.len() <= self.seen {
             return Ok(false);
         }
-        let Some(log) = log_behind(alloc, lines, self.seen, check.skip)? else {
+        let Some(read) = log_behind(alloc, lines, self.seen, check.skip)? else {
             self.is_blind = true;
             return Ok(false);
         };
         self.seen = lines.len();
-        has_breach(
+        let memory = start.memory();
+        let found = has_breach_in(
             alloc,
             &mut self.judge,
+            &mut self.halves,
             check.profile,
-            memory_at_start(start),
-            log.trace.log(),
-        )
+            memory,
+            &read.log,
+        )?;
+        Ok(found)
     }
 }
 
@@ -145,9 +153,30 @@ fn log_behind(
     seen: usize,
     skip: bool,
 ) -> Result<Option<ReadLog>, AllocError> {
-    let mut text = Vec::from_slice(alloc, first_lines(lines))?;
+    let mut text = Vec::from_slice(alloc, head_lines(lines))?;
     text.extend_from_slice(lines.get(seen..).unwrap_or(&[]))?;
     log_of(alloc, &text, skip)
+}
+
+/// Whether one of the next messages breaks a rule, with the bytes of the first half of its line or of the second.
+fn has_breach_in(
+    alloc: Global,
+    judge: &mut Judge,
+    halves: &mut Judge,
+    profile: Profile,
+    memory: Option<&Image>,
+    log: &Log,
+) -> Result<bool, AllocError>
+    requires first { HasJudged judge.old }
+    requires second { HasJudged halves.old }
+    ensures first { OnOk result (HasJudged judge.new) }
+    ensures second { OnOk result (HasJudged halves.new) }
+{
+    let found = has_breach(alloc, judge, profile, memory, log.messages())?;
+    if found {
+        return Ok(true);
+    }
+    has_breach(alloc, halves, profile, memory, log.second())
 }
 
 /// Whether one of the next messages breaks a rule.
@@ -171,22 +200,15 @@ fn has_breach(
 
 /// The log whose text this is, if it is one.
 fn log_of(alloc: Global, text: &[u8], skip: bool) -> Result<Option<ReadLog>, AllocError>
-    ensures { IfOk result (λ found. IfSome found (λ log. IsLogOf skip text.now log.trace.history)) }
+    ensures { IfOk result (λ found. IfSome found (IsLogOf skip text.now)) }
 {
     let meant = meant_text(alloc, text, skip)?;
     let whole = text_meant(alloc, meant.as_slice())?;
-    let Ok((trace, length)) = read_trace(alloc, whole.as_slice()) else {
+    let Some(log) = log_in_text(alloc, whole.as_slice()) else {
         return Ok(None);
     };
-    if length < whole.len() {
-        return Ok(None);
-    }
     let bytes = Vec::from_slice(alloc, text)?;
-    Ok(Some(ReadLog {
-        bytes,
-        meant,
-        trace,
-    }))
+    Ok(Some(ReadLog { bytes, meant, log }))
 }
 
 /// The log of these lines, if a message of it breaks a rule.
@@ -195,17 +217,16 @@ fn unlawful_log(
     lines: &[u8],
     check: MessageCheck,
 ) -> Result<Option<ReadLog>, AllocError>
-    ensures { IfOk result (λ found. IfSome found (λ log. IsLogOf check.skip lines.now log.trace.history × IsUnlawful check.profile log.trace.history)) }
+    ensures { IfOk result (λ found. IfSome found (λ read. IsLogOf check.skip lines.now read × IsUnlawful check.profile read.log)) }
 {
-    let Some(log) = log_of(alloc, lines, check.skip)? else {
+    let Some(read) = log_of(alloc, lines, check.skip)? else {
         return Ok(None);
     };
-    let memory = memory_at_start(&log.trace);
-    let verdict = judge_messages(alloc, check.profile, memory, log.trace.log())?;
-    if verdict == MessageVerdict::Lawful {
+    let verdict = read.log.verdict(alloc, check.profile, false)?;
+    if are_lawful_by(verdict) {
         return Ok(None);
     }
-    Ok(Some(log))
+    Ok(Some(read))
 }
 
 /// The bytes up to the end of the last line that is whole.
@@ -232,15 +253,15 @@ fn before_messages(lines: &[u8]) -> Option<&[u8]> {
     None
 }
 
-/// A trace's first two lines.
-fn first_lines(lines: &[u8]) -> &[u8] {
-    let mut is_second = false;
+/// A trace's first two lines; the first line of a log that is none.
+fn head_lines(lines: &[u8]) -> &[u8] {
+    let mut is_last = is_wide(lines);
     for at in 0..lines.len() {
         if lines[at] == b'\n' {
-            if is_second {
+            if is_last {
                 return &lines[..at + 1];
             }
-            is_second = true;
+            is_last = true;
         }
     }
     lines

@@ -8,7 +8,7 @@ use Rattle.command_files.specs.Status.{status_of}
 use Rattle.command_files.specs.declared.fault.Fault.{Fault}
 use Rattle.command_line.proofs.Meant.{beyond_explore, beyond_fences, beyond_run, beyond_show, written}
 use Rattle.command_settings.specs.Settings.{message_in}
-use Rattle.command_line.specs.Running.{Came, CheckCame, CheckNoted, ExploreCame, IsOutOfRange, IsDone, IsExploreFile, IsFaulty, IsNoted, IsWritten, ShowCame}
+use Rattle.command_line.specs.Running.{Came, CheckCame, CheckNoted, message_check_of, ExploreCame, IsOutOfRange, IsDone, IsExploreFile, IsFaulty, IsNoted, IsWritten, ShowCame}
 use Rattle.command_settings.specs.declared.wanted.Check.{Check as Judging}
 use Rattle.command_settings.specs.declared.wanted.Explore.{Explore as Sought}
 use Rattle.command_settings.specs.declared.wanted.Audit.{Audit}
@@ -16,7 +16,10 @@ use Rattle.command_settings.specs.declared.wanted.Settings.{Settings}
 use Rattle.command_settings.specs.declared.wanted.Show.{Show as Shown}
 use Rattle.command_settings.specs.declared.wanted.Settings.TheVariants.{Check, Explore, Fences, Run, Show}
 use Rattle.command_settings.specs.declared.wanted.Run.{Run as Asked}
+use Rattle.message_judge.specs.declared.verdict.MessageBreach.{MessageBreach}
+use Rattle.message_judge.specs.declared.verdict.MessageVerdict.TheVariants.{Unlawful}
 use Rattle.run_command.specs.Running.{IsRun, IsRunFault}
+use Rattle.trace_commands.specs.Messages.{AreObjected}
 use Rattle.command_line.specs.Telling.{AreJudged, AreWordsJudged, ComesBeforeFiles, IsFaultOfCommand, IsNotedAt, IsShowingFault}
 use Rattle.fences_command.specs.Fencing.{IsAuditTold, IsFencesFault}
 use Rattle.fences_command.specs.Witnesses.{IsFencesFile}
@@ -63,14 +66,15 @@ pub all_noted : (held left : Contents) (old new before after : Option (List ℕ)
 all_noted held left old new before after wanted meant (Ok judgement) is so = subst (IsNoted held left old new before after judgement) (sym is) so
 all_noted held left old new before after wanted meant (Err fault) is so = tt
 
-pub messages_noted : (of_messages : Bool) (before after : Option (List ℕ)) → of_messages ≡ true → CheckNoted NotAllowed of_messages before after
-messages_noted true before after is = tt
-messages_noted false before after is = absurd cc
+pub messages_noted : (of_messages : Bool) (held : Contents) (check : Judging) (breach : MessageBreach) (index : ℕ) (before after : Option (List ℕ)) → of_messages ≡ true
+    → AreObjected held check.trace.now (message_check_of check) (Unlawful breach index) before after → CheckNoted NotAllowed of_messages held check before after
+messages_noted true held check breach index before after is are = (breach, index, are)
+messages_noted false held check breach index before after is are = absurd cc
 
-pub order_noted : (judgement : Judgement) (of_messages : Bool) (before after : Option (List ℕ)) → after ≡ before → CheckNoted judgement of_messages before after
-order_noted Allowed of_messages before after same = same
-order_noted NotAllowed true before after same = tt
-order_noted NotAllowed false before after same = same
+pub order_noted : (judgement : Judgement) (of_messages : Bool) (held : Contents) (check : Judging) (before after : Option (List ℕ)) → of_messages ≡ false → after ≡ before → CheckNoted judgement of_messages held check before after
+order_noted Allowed of_messages held check before after is same = same
+order_noted NotAllowed true held check before after is same = absurd cc
+order_noted NotAllowed false held check before after is same = same
 
 -- whatever fault a command tells is one of what the settings name
 pub told_of : (held : Contents) (old new : Option (List ℕ)) (wanted meant : Settings) (fault : Fault) → wanted ≡ meant → IsFaultOfCommand held old new meant fault → IsFaultOfCommand held old new wanted fault

@@ -21,7 +21,7 @@ use Rattle.explore_command.specs.Until.{IsWayNoted, IsWayTold, WayHas}
 use Rattle.command_files.specs.Addresses.{address}
 use Rattle.script_commands.specs.Charting.{IsCharted, IsPictureCutOff as IsHalfCharted}
 use Rattle.trace_commands.specs.Checking.{IsVerdictTold, IsVerdictCutOff}
-use Rattle.trace_commands.specs.Messages.{IsLogCutOff, IsLogJudged}
+use Rattle.trace_commands.specs.Messages.{AreObjected, IsLogCutOff, IsLogJudged}
 use Rattle.trace_commands.specs.MessageCheck.{MessageCheck}
 use Rattle.run_command.specs.Running.{IsRun, IsRunCutOff, IsRunEndTold}
 use Rattle.command_settings.specs.Refusals.{IsFitting, IsForHelp}
@@ -149,11 +149,12 @@ IsDone held left old new (Page replay) = IsPaged held replay old new
 IsDone held left old new (Fences audit) = IsAuditTold held left audit Allowed old new
 IsDone held left old new (Check check) = IsClean check.messages held check old new
 
--- a check puts nothing on standard error; of what it notes of messages that aren't lawful it is not said
-abbrev pub CheckNoted : Judgement → (of_messages : Bool) → (before after : Option (List ℕ)) → Type 0
-CheckNoted Allowed of_messages before after = after ≡ before
-CheckNoted NotAllowed true before after = Unit {0}
-CheckNoted NotAllowed false before after = after ≡ before
+-- a check puts nothing on standard error, but the lines of messages that break a rule, or a beginning of them
+abbrev pub CheckNoted : Judgement → (of_messages : Bool) → Contents → Judging → (before after : Option (List ℕ)) → Type 0
+CheckNoted Allowed of_messages held check before after = after ≡ before
+CheckNoted NotAllowed true held check before after =
+    (breach : MessageBreach) × (index : ℕ) × AreObjected held check.trace.now (message_check_of check) (Unlawful breach index) before after
+CheckNoted NotAllowed false held check before after = after ≡ before
 
 -- by how many events a message is sent, if one is looked for; where the outcomes that were printed are allowed nothing, and else a beginning of the lines that tell which ones aren't; under the memory model, where what shows them was written, behind a beginning of what is told of their traces
 abbrev pub ExploreNoted : (until : Option MessagePattern) → (architecture sampled : Bool) → Judgement → Contents → Seeking → (old new before after : Option (List ℕ)) → Type 0
@@ -174,7 +175,7 @@ IsNoted held left old new before after judgement (Explain explain) = after ≡ b
 IsNoted held left old new before after judgement (Chart chart) = after ≡ before
 IsNoted held left old new before after judgement (Page replay) = after ≡ before
 IsNoted held left old new before after judgement (Fences audit) = after ≡ before
-IsNoted held left old new before after judgement (Check check) = CheckNoted judgement check.messages before after
+IsNoted held left old new before after judgement (Check check) = CheckNoted judgement check.messages held check before after
 IsNoted held left old new before after judgement (Explore explore) = ExploreNoted (message_in explore.until) explore.architecture (nat_lt 0 explore.sample) judgement held explore old new before after
 IsNoted held left old new before after judgement (Show show) = ShowNoted show.explore.architecture judgement held show old new before after
 

@@ -199,7 +199,7 @@ fn checked<'a, F: Files, O: Write, E: Write>(
         (IsCheckBroken wanted.entry.messages (F.held files.old) wanted.entry (O.contents out.old) (O.contents out.new))) }
     ensures fitting { IfErr result (λ fault. status_of fault ≢ 2) }
     ensures told { IfErr result (IsJudgingFault wanted.entry.messages (F.held files.old) wanted.entry) }
-    ensures noted { IfOk result (λ judgement. CheckNoted judgement wanted.entry.messages (E.contents err.old) (E.contents err.new)) }
+    ensures noted { IfOk result (λ judgement. CheckNoted judgement wanted.entry.messages (F.held files.old) wanted.entry (E.contents err.old) (E.contents err.new)) }
     ensures silent { OnErr result (E.contents err.new ≡ E.contents err.old) }
     ensures spared { F.held files.new ≡ F.held files.old }
 {

@@ -2,7 +2,7 @@ use Rattle.std.proofs.Common.{false, subst, sym, true}
 use Rattle.std.specs.Option.{option_copied}
 use Rattle.std.specs.Prelude.{IfOk}
 use Rattle.check_command.proofs.Logs.{verdict_on}
-use Rattle.check_command.specs.Messages.{memory_told}
+use Rattle.check_command.specs.Logs.{memory_told}
 use Rattle.log_text.specs.Laws.{IsVerdict}
 use Rattle.check_command.proofs.messages.by_messages.Goals as goal
 

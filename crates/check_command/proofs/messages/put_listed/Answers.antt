@@ -7,7 +7,7 @@ use Rattle.message_judge.specs.declared.breaches.Broken.{Broken}
 use Rattle.check_command.proofs.messages.put_listed.Goals as goal
 
 pub loop-broken-init : goal.loop-broken-init
-loop-broken-init g c = λ plain. none_told (IsBreachLine c.args.log.profile c.args.log.trace.now.history c.args.text c.args.log.file.now) _
+loop-broken-init g c = λ plain. none_told (IsBreachLine c.args.log.profile c.args.log.log.now c.args.text c.args.log.file.now) _
 
 pub loop-broken-preserved : goal.loop-broken-preserved
 loop-broken-preserved g c = λ plain. told_more _ _ _ _ _ _ _ _ c.loop-broken-test.true refl (c.loop-broken.invariant plain) (c.in_ok-put_breach.ensures plain)
@@ -18,6 +18,6 @@ returns-in_err-put_breach g c = λ plain. told_stops _ _ _ _ _ c.from_residual.e
 
 pub returns : goal.returns
 returns g c = λ plain. subst
-    (λ (l : List Broken). (bytes : List ℕ) × AreBreachLines (IsBreachLine c.args.log.profile c.args.log.trace.now.history c.args.text c.args.log.file.now) l bytes
+    (λ (l : List Broken). (bytes : List ℕ) × AreBreachLines (IsBreachLine c.args.log.profile c.args.log.log.now c.args.text c.args.log.file.now) l bytes
     × Appends (g.E.Write.contents c.args.err.now) (g.E.Write.contents c.loop-broken.err) bytes)
     (take_all c.loop-broken.broken-index c.args.listed.now c.loop-broken-test.false) (c.loop-broken.invariant plain)

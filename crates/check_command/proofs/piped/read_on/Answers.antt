@@ -27,7 +27,7 @@ too_long-requires g c = (
 )
 
 pub returns-in-Ok-Some-clause-read : goal.returns-in-Ok-Some-clause-read
-returns-in-Ok-Some-clause-read g c = broken_held (g.F.Files.held c.args.files.now) c.args.file.now c.args.check (g.F.Reader.Read.remaining c.read_more.new.reader) c.read_more.new.bytes.items c.in-Ok-Some.log.trace.history
+returns-in-Ok-Some-clause-read g c = broken_held (g.F.Files.held c.args.files.now) c.args.file.now c.args.check (g.F.Reader.Read.remaining c.read_more.new.reader) c.read_more.new.bytes.items c.in-Ok-Some.log
     c.requires.input c.requires.first (c.in-Ok-true.ensures.read (g.F.Files.held c.args.files.now c.args.file.now) c.loop.invariant.taken)
     (broken_found c.read_more.new.bytes.items c.deref-in-loop.result.now c.args.check c.in-Ok-Some.field-0 c.in-Ok-Some.log c.deref-in-loop.ensures.value c.in-Ok-Some.field-0-is c.in-Ok-Some.ensures.broken)
 

@@ -1,0 +1,6 @@
+use Rattle.std.proofs.Common.{◌≡◌, map, take}
+use Rattle.wide_logs.specs.Entries.{second_of}
+use Rattle.wide_logs.proofs.reading.second_part.Given as goal
+
+abbrev pub invariant-loop-entry : goal.invariant-loop-entry
+invariant-loop-entry l = l.part.items ≡ map second_of (take l.entry-index l.entries)

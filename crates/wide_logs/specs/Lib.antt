@@ -1,0 +1,5 @@
+pub mod Shapes
+pub mod Entries
+pub mod Reading
+pub mod Logs
+pub mod Stops
