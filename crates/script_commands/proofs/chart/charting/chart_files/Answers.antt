@@ -42,7 +42,7 @@ returns-in-Err-clause-unfinished g c =
     left_by _ c.args.wanted c.args.line c.in_ok-script.script c.in_ok-named.named.image c.in_ok-named.named.names c.in_ok-address.address _ _ c.in-Err.error _ c.in_ok-script.ensures.script
     (subst (λ (held : Contents). HoldsNamedImage held c.args.wanted.raw c.args.wanted.image.now c.in_ok-script.script.kib c.in_ok-named.named.image c.in_ok-named.named.names) c.in_ok-script.ensures.stays c.in_ok-named.ensures.image)
     c.in_ok-address.ensures.named
-    (undrawn_at c.in_ok-named.named.names _ _ _ _ _ _ _ _ c.in-Err.error c.config_of-config.ensures c.as_slice-events.ensures c.in-Err.ensures.undrawn)
+    (undrawn_at c.in_ok-named.named.names _ _ _ _ _ _ _ _ _ c.in-Err.error c.config_of-config.ensures c.as_slice-events.ensures c.in-Err.ensures.undrawn)
     c.fault_of-fault.ensures
 
 pub returns-in-Err-clause-misused : goal.returns-in-Err-clause-misused
@@ -55,7 +55,7 @@ returns-in-Err-clause-told g c =
     told_as _ c.args.wanted c.args.line c.in_ok-script.script c.in_ok-named.named.image c.in_ok-named.named.names c.in_ok-address.address _ _ _ c.in-Err.error _ c.in_ok-script.ensures.script
     (subst (λ (held : Contents). HoldsImage held c.args.wanted.raw c.args.wanted.image.now c.in_ok-script.script.kib c.in_ok-named.named.image) c.in_ok-script.ensures.stays c.in_ok-named.ensures.loaded)
     c.in_ok-address.ensures.named
-    (undrawn_at c.in_ok-named.named.names _ _ _ _ _ _ _ _ c.in-Err.error c.config_of-config.ensures c.as_slice-events.ensures c.in-Err.ensures.undrawn)
+    (undrawn_at c.in_ok-named.named.names _ _ _ _ _ _ _ _ _ c.in-Err.error c.config_of-config.ensures c.as_slice-events.ensures c.in-Err.ensures.undrawn)
     c.fault_of-fault.ensures
 
 pub returns-in-Ok-clause-charted : goal.returns-in-Ok-clause-charted
@@ -70,7 +70,7 @@ returns-in-Ok-clause-charted g c = record {
       c.in_ok-script.ensures.stays c.in_ok-named.ensures.image;
   only = c.in_ok-script.ensures.only;
   named = c.in_ok-address.ensures.named;
-  drawn = drawn_at c.in_ok-named.named.names _ _ _ _ _ _ _ _ c.config_of-config.ensures c.as_slice-events.ensures (drawn_on c.in_ok-named.named.names _ _ _ _ _ _ _ _ c.flush.ensures.bytes c.in_default.ensures.drawn);
+  drawn = drawn_at c.in_ok-named.named.names _ _ _ _ _ _ _ _ _ c.config_of-config.ensures c.as_slice-events.ensures (drawn_on c.in_ok-named.named.names _ _ _ _ _ _ _ _ c.flush.ensures.bytes c.in_default.ensures.drawn);
 }
 
 pub returns-clause-unfinished : goal.returns-clause-unfinished
@@ -79,7 +79,7 @@ returns-clause-unfinished g c =
     (stopped _ c.args.wanted c.args.line c.in_ok-script.script c.in_ok-named.named.image c.in_ok-named.named.names c.in_ok-address.address _ _ c.in_ok-script.ensures.script
     (subst (λ (held : Contents). HoldsNamedImage held c.args.wanted.raw c.args.wanted.image.now c.in_ok-script.script.kib c.in_ok-named.named.image c.in_ok-named.named.names) c.in_ok-script.ensures.stays c.in_ok-named.ensures.image)
     c.in_ok-address.ensures.named
-    (begun_at c.in_ok-named.named.names _ _ _ _ _ _ _ _ c.config_of-config.ensures c.as_slice-events.ensures (drawn_begun c.in_ok-named.named.names _ _ _ _ _ _ _ _ c.flush.ensures.bytes c.in_default.ensures.drawn)))
+    (begun_at c.in_ok-named.named.names _ _ _ _ _ _ _ _ _ c.config_of-config.ensures c.as_slice-events.ensures (drawn_begun c.in_ok-named.named.names _ _ _ _ _ _ _ _ c.flush.ensures.bytes c.in_default.ensures.drawn)))
 
 pub returns-clause-misused : goal.returns-clause-misused
 returns-clause-misused g c = λ two. absurd (writing_never_misused _ c.writing.ensures.told two)
