@@ -43,6 +43,12 @@ found_of P (x ∷ rest) patches s all is = go (is_of patches x) (found_of P rest
         let is : x ≡ s = cc in subst P is (All-head P x rest all)
     go false later at = later at
 
+no_way : (X : Type 0) (way : Way) → ◌≡◌ {A = Option Way} None (Some way) → X
+no_way X way is = cc
+
+same_way : (one other : Way) → ◌≡◌ {A = Option Way} (Some one) (Some other) → one ≡ other
+same_way one other is = cc
+
 -- ---- of an audit
 
 witnessed : (world : World) (image : Initial) (config : Config) (addresses : List ℕ) (window limit : ℕ) (found : Architecture) → IsSearchIn world image config addresses window limit found → All (IsWitnessed image config addresses) found.outcomes.items
@@ -65,21 +71,19 @@ pub record IsShownOf (image : Initial) (config : Config) (addresses : List ℕ) 
 
 module _ (image : Initial) (config : Config) (addresses : List ℕ) (found : Architecture) (outcomes : All (IsWitnessed image config addresses) found.outcomes.items) (stops : All (IsShown image config addresses) found.failures.items) where
   by_outcome : (r : Option Outcome) (way : Way) → ((o : Outcome) → r ≡ Some o → IsWitnessed image config addresses o) → way_to r ≡ Some way → ShowsSome image config addresses way
-  by_outcome None way is = cc
-  by_outcome (Some o) way is = λ at.
-      let same : o.way ≡ way = cc in inl (o, subst (IsWitnessedBy image config addresses o) same (is o refl))
+  by_outcome None way is at = no_way (ShowsSome image config addresses way) way at
+  by_outcome (Some o) way is at = inl (o, subst (IsWitnessedBy image config addresses o) (same_way o.way way at) (is o refl))
 
   by_stop : (r : Option Failing) (way : Way) → ((f : Failing) → r ≡ Some f → IsShown image config addresses f) → way_to_stop r ≡ Some way → ShowsSome image config addresses way
-  by_stop None way is = cc
-  by_stop (Some f) way is = λ at.
-      let same : f.way ≡ way = cc in inr (f, subst (IsShownBy image config addresses f.failure) same (is f refl))
+  by_stop None way is at = no_way (ShowsSome image config addresses way) way at
+  by_stop (Some f) way is at = inr (f, subst (IsShownBy image config addresses f.failure) (same_way f.way way at) (is f refl))
 
   by_answer : (answer : Answer) (way : Way) → shown_as found answer ≡ Some way → ShowsSome image config addresses way
   by_answer (Other place) way at = by_outcome (slice_get found.outcomes.items place) way (λ o is. got_of Outcome (IsWitnessed image config addresses) found.outcomes.items place o outcomes is) at
   by_answer (Stops place) way at = by_stop (slice_get found.failures.items place) way (λ f is. got_of Failing (IsShown image config addresses) found.failures.items place f stops is) at
-  by_answer Same way at = let bad : ◌≡◌ {A = Option Way} None (Some way) = at in cc
-  by_answer (Fewer place) way at = let bad : ◌≡◌ {A = Option Way} None (Some way) = at in cc
-  by_answer Bounded way at = let bad : ◌≡◌ {A = Option Way} None (Some way) = at in cc
+  by_answer Same way at = no_way (ShowsSome image config addresses way) way at
+  by_answer (Fewer place) way at = no_way (ShowsSome image config addresses way) way at
+  by_answer Bounded way at = no_way (ShowsSome image config addresses way) way at
 
 module _ (world : World) (image : Initial) (config : Config) (addresses : List ℕ) (window limit : ℕ) (answers : Architecture → Answer) where
   by_search : (s : Search) (way : Way) → IsSearched world image config addresses window limit answers s → shown_by s ≡ Some way → IsShownOf image config addresses way
@@ -95,5 +99,5 @@ module _ (world : World) (image : Initial) (config : Config) (addresses : List �
   shown_of audit o way searched shown = go (search_in audit.searches.items (patches_without o audit.own.items)) refl shown
     where
       go : (r : Option Search) → search_in audit.searches.items (patches_without o audit.own.items) ≡ r → shown_in r ≡ Some way → IsShownOf image config addresses way
-      go None none at = cc
+      go None none at = no_way (IsShownOf image config addresses way) way at
       go (Some s) found at = by_search s way (found_of (IsSearched world image config addresses window limit answers) audit.searches.items (patches_without o audit.own.items) s searched found) at
