@@ -36,7 +36,7 @@ LOOK = """(() => {
 
 def begun(script, file):
     """Returns a file with the script's first events, as many as a picture surely has rows for."""
-    file.write_bytes(b"\n".join(script.read_bytes().split(b"\n")[:300]) + b"\n")
+    file.write_bytes(b"".join(script.read_bytes().splitlines(True)[:300]))
     return file
 
 
