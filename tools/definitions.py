@@ -57,7 +57,7 @@ PROGRAM = [
     ("explore_command", "Passing", "SearchPassingIsSafe"),
 ]
 LITMUS = [
-    ("command_line", "Program", "IsOfLitmus"),
+    ("litmus_command", "Line", "IsLine"),
 ]
 
 NAME = r"[A-Za-z_][\w']*(?:-[\w'≤≡]+)*"

@@ -132,7 +132,7 @@ def on_a_full_device(rvtl, folder, replay):
     commands = [replay[1:], ["explain", "--raw", IMAGE, SCRIPT], ["explain", "--vcd", "--raw", IMAGE, SCRIPT], ["chart", "--raw", IMAGE, SCRIPT],
                 ["page", "--raw", IMAGE, SCRIPT], ["check", f"{EXAMPLES}/legal.trace"], ["check", "--messages", f"{EXAMPLES}/two_trunks.trace"],
                 ["explore", "--raw", IMAGE], ["explore", "--raw", "--architecture", IMAGE], ["fences", "--raw", IMAGE],
-                ["run", "--raw", "--journal", os.path.join(folder, "full.script"), IMAGE], ["litmus", f"{EXAMPLES}/MP.litmus"], ["--help"]]
+                ["run", "--raw", "--journal", os.path.join(folder, "full.script"), IMAGE], ["litmus", f"{EXAMPLES}/MP.litmus"], ["litmus", "--help"], ["--help"]]
     told = ["rvtl: cannot write", "note: no space is left"]
     for words in commands:
         with open("/dev/full", "wb") as full:

@@ -20,8 +20,8 @@ use rv32_decode::{
 use text_words::Number;
 
 /// LUI or AUIPC.
-fn read_upper(op: UpperOp, operands: Operands) -> Result<Statement, StatementError>
-    ensures { result ≡ formats.upper op operands }
+fn read_upper(op: UpperOp, operands: &Operands<'_>) -> Result<Statement, StatementError>
+    ensures { result ≡ formats.upper op operands.now }
 {
     let Some((rd, n)) = register_and_number(operands) else {
         return Err(StatementError::NoInstruction);
@@ -31,21 +31,24 @@ fn read_upper(op: UpperOp, operands: Operands) -> Result<Statement, StatementErr
 }
 
 /// A jump to a label, or by a distance.
-fn read_jump(rd: Register, target: Operand) -> Result<Statement, StatementError>
-    ensures { result ≡ formats.jump rd target }
+fn read_jump(rd: Register, target: &Operand<'_>) -> Result<Statement, StatementError>
+    ensures { result ≡ formats.jump rd target.now }
 {
     match target {
-        Operand::Name(label) => Ok(Statement::Jump { rd, label }),
+        Operand::Name(word) => Ok(Statement::Jump {
+            rd,
+            label: word.name(),
+        }),
         Operand::Distance(n) => {
-            let offset = jump_offset(n)?;
+            let offset = jump_offset(*n)?;
             Ok(Statement::One(Instr::Jal { rd, offset }))
         }
         _ => Err(StatementError::NoInstruction),
     }
 }
 
-fn read_jal(operands: Operands) -> Result<Statement, StatementError>
-    ensures { result ≡ formats.jal operands }
+fn read_jal(operands: &Operands<'_>) -> Result<Statement, StatementError>
+    ensures { result ≡ formats.jal operands.now }
 {
     let Some((rd, target)) = register_and_target(operands) else {
         return Err(StatementError::NoInstruction);
@@ -53,8 +56,8 @@ fn read_jal(operands: Operands) -> Result<Statement, StatementError>
     read_jump(rd, target)
 }
 
-fn read_j(operands: Operands) -> Result<Statement, StatementError>
-    ensures { result ≡ formats.j operands }
+fn read_j(operands: &Operands<'_>) -> Result<Statement, StatementError>
+    ensures { result ≡ formats.j operands.now }
 {
     let Some(target) = one_in(operands) else {
         return Err(StatementError::NoInstruction);
@@ -62,8 +65,8 @@ fn read_j(operands: Operands) -> Result<Statement, StatementError>
     read_jump(Register::new(0), target)
 }
 
-fn read_jalr(operands: Operands) -> Result<Statement, StatementError>
-    ensures { result ≡ formats.jalr operands }
+fn read_jalr(operands: &Operands<'_>) -> Result<Statement, StatementError>
+    ensures { result ≡ formats.jalr operands.now }
 {
     let Some((rd, (n, rs1))) = register_and_address(operands) else {
         return Err(StatementError::NoInstruction);
@@ -77,19 +80,19 @@ fn read_branch_to(
     op: BranchOp,
     rs1: Register,
     rs2: Register,
-    target: Operand,
+    target: &Operand<'_>,
 ) -> Result<Statement, StatementError>
-    ensures { result ≡ formats.branch_to op rs1 rs2 target }
+    ensures { result ≡ formats.branch_to op rs1 rs2 target.now }
 {
     match target {
-        Operand::Name(label) => Ok(Statement::Branch {
+        Operand::Name(word) => Ok(Statement::Branch {
             op,
             rs1,
             rs2,
-            label,
+            label: word.name(),
         }),
         Operand::Distance(n) => {
-            let offset = branch_offset(n)?;
+            let offset = branch_offset(*n)?;
             Ok(Statement::One(Instr::Branch {
                 op,
                 rs1,
@@ -101,8 +104,8 @@ fn read_branch_to(
     }
 }
 
-fn read_branch(op: BranchOp, operands: Operands) -> Result<Statement, StatementError>
-    ensures { result ≡ formats.branch op operands }
+fn read_branch(op: BranchOp, operands: &Operands<'_>) -> Result<Statement, StatementError>
+    ensures { result ≡ formats.branch op operands.now }
 {
     let Some((rs1, rs2, target)) = two_registers_and_target(operands) else {
         return Err(StatementError::NoInstruction);
@@ -110,8 +113,8 @@ fn read_branch(op: BranchOp, operands: Operands) -> Result<Statement, StatementE
     read_branch_to(op, rs1, rs2, target)
 }
 
-fn read_exchanged(op: BranchOp, operands: Operands) -> Result<Statement, StatementError>
-    ensures { result ≡ formats.exchanged op operands }
+fn read_exchanged(op: BranchOp, operands: &Operands<'_>) -> Result<Statement, StatementError>
+    ensures { result ≡ formats.exchanged op operands.now }
 {
     let Some((rs2, rs1, target)) = two_registers_and_target(operands) else {
         return Err(StatementError::NoInstruction);
@@ -119,8 +122,8 @@ fn read_exchanged(op: BranchOp, operands: Operands) -> Result<Statement, Stateme
     read_branch_to(op, rs1, rs2, target)
 }
 
-fn read_zero(op: BranchOp, operands: Operands) -> Result<Statement, StatementError>
-    ensures { result ≡ formats.with_zero op operands }
+fn read_zero(op: BranchOp, operands: &Operands<'_>) -> Result<Statement, StatementError>
+    ensures { result ≡ formats.with_zero op operands.now }
 {
     let Some((rs1, target)) = register_and_target(operands) else {
         return Err(StatementError::NoInstruction);
@@ -128,8 +131,8 @@ fn read_zero(op: BranchOp, operands: Operands) -> Result<Statement, StatementErr
     read_branch_to(op, rs1, Register::new(0), target)
 }
 
-fn read_zero_exchanged(op: BranchOp, operands: Operands) -> Result<Statement, StatementError>
-    ensures { result ≡ formats.zero_with op operands }
+fn read_zero_exchanged(op: BranchOp, operands: &Operands<'_>) -> Result<Statement, StatementError>
+    ensures { result ≡ formats.zero_with op operands.now }
 {
     let Some((rs2, target)) = register_and_target(operands) else {
         return Err(StatementError::NoInstruction);
@@ -137,8 +140,8 @@ fn read_zero_exchanged(op: BranchOp, operands: Operands) -> Result<Statement, St
     read_branch_to(op, Register::new(0), rs2, target)
 }
 
-fn read_load(op: LoadOp, operands: Operands) -> Result<Statement, StatementError>
-    ensures { result ≡ formats.load op operands }
+fn read_load(op: LoadOp, operands: &Operands<'_>) -> Result<Statement, StatementError>
+    ensures { result ≡ formats.load op operands.now }
 {
     let Some((rd, (n, rs1))) = register_and_address(operands) else {
         return Err(StatementError::NoInstruction);
@@ -152,8 +155,8 @@ fn read_load(op: LoadOp, operands: Operands) -> Result<Statement, StatementError
     }))
 }
 
-fn read_store(op: StoreOp, operands: Operands) -> Result<Statement, StatementError>
-    ensures { result ≡ formats.store op operands }
+fn read_store(op: StoreOp, operands: &Operands<'_>) -> Result<Statement, StatementError>
+    ensures { result ≡ formats.store op operands.now }
 {
     let Some((rs2, (n, rs1))) = register_and_address(operands) else {
         return Err(StatementError::NoInstruction);
@@ -167,8 +170,8 @@ fn read_store(op: StoreOp, operands: Operands) -> Result<Statement, StatementErr
     }))
 }
 
-fn read_immediate(op: ImmediateOp, operands: Operands) -> Result<Statement, StatementError>
-    ensures { result ≡ formats.immediate op operands }
+fn read_immediate(op: ImmediateOp, operands: &Operands<'_>) -> Result<Statement, StatementError>
+    ensures { result ≡ formats.immediate op operands.now }
 {
     let Some((rd, rs1, n)) = two_registers_and_number(operands) else {
         return Err(StatementError::NoInstruction);
@@ -177,8 +180,8 @@ fn read_immediate(op: ImmediateOp, operands: Operands) -> Result<Statement, Stat
     Ok(Statement::One(Instr::Immediate { op, rd, rs1, imm }))
 }
 
-fn read_shift(op: ShiftOp, operands: Operands) -> Result<Statement, StatementError>
-    ensures { result ≡ formats.shift op operands }
+fn read_shift(op: ShiftOp, operands: &Operands<'_>) -> Result<Statement, StatementError>
+    ensures { result ≡ formats.shift op operands.now }
 {
     let Some((rd, rs1, n)) = two_registers_and_number(operands) else {
         return Err(StatementError::NoInstruction);
@@ -192,8 +195,8 @@ fn read_shift(op: ShiftOp, operands: Operands) -> Result<Statement, StatementErr
     }))
 }
 
-fn read_register(op: RegisterOp, operands: Operands) -> Result<Statement, StatementError>
-    ensures { result ≡ formats.register op operands }
+fn read_register(op: RegisterOp, operands: &Operands<'_>) -> Result<Statement, StatementError>
+    ensures { result ≡ formats.register op operands.now }
 {
     let Some((rd, rs1, rs2)) = three_registers(operands) else {
         return Err(StatementError::NoInstruction);
@@ -202,19 +205,19 @@ fn read_register(op: RegisterOp, operands: Operands) -> Result<Statement, Statem
 }
 
 /// A set of a FENCE.
-fn read_set(operand: Operand) -> Option<FenceSet>
-    ensures value { option_map (λ s. s.0) result ≡ formats.set operand }
+fn read_set(operand: &Operand<'_>) -> Option<FenceSet>
+    ensures value { option_map (λ s. s.0) result ≡ formats.set operand.now }
     ensures known { IfSome result (λ s. s.0 < 16) }
 {
     match operand {
         Operand::Name(letters) => set_of(letters.as_slice()),
-        Operand::Number(number) if is_zero(number) => Some(FenceSet::from_bits_retain(0)),
+        Operand::Number(number) if is_zero(*number) => Some(FenceSet::from_bits_retain(0)),
         _ => None,
     }
 }
 
-fn read_fence_of(before: Operand, after: Operand) -> Result<Statement, StatementError>
-    ensures { result ≡ formats.fence_with (formats.set before) (formats.set after) }
+fn read_fence_of(before: &Operand<'_>, after: &Operand<'_>) -> Result<Statement, StatementError>
+    ensures { result ≡ formats.fence_with (formats.set before.now) (formats.set after.now) }
 {
     match (read_set(before), read_set(after)) {
         (Some(before), Some(after)) => Ok(Statement::One(Instr::Fence(FenceSets::new(
@@ -225,8 +228,8 @@ fn read_fence_of(before: Operand, after: Operand) -> Result<Statement, Statement
 }
 
 /// A FENCE with no sets orders all accesses.
-fn read_fence(operands: Operands) -> Result<Statement, StatementError>
-    ensures { result ≡ formats.fence operands }
+fn read_fence(operands: &Operands<'_>) -> Result<Statement, StatementError>
+    ensures { result ≡ formats.fence operands.now }
 {
     match operands {
         Operands::None => {
@@ -239,8 +242,8 @@ fn read_fence(operands: Operands) -> Result<Statement, StatementError>
 }
 
 /// A statement without operands.
-fn read_bare(statement: Statement, operands: Operands) -> Result<Statement, StatementError>
-    ensures { result ≡ formats.bare statement operands }
+fn read_bare(statement: Statement, operands: &Operands<'_>) -> Result<Statement, StatementError>
+    ensures { result ≡ formats.bare statement operands.now }
 {
     match operands {
         Operands::None => Ok(statement),
@@ -284,8 +287,8 @@ pub fn load_word(rd: Register, n: u32) -> Statement
     }
 }
 
-fn read_li(operands: Operands) -> Result<Statement, StatementError>
-    ensures { result ≡ formats.li operands }
+fn read_li(operands: &Operands<'_>) -> Result<Statement, StatementError>
+    ensures { result ≡ formats.li operands.now }
 {
     let Some((rd, n)) = register_and_number(operands) else {
         return Err(StatementError::NoInstruction);
@@ -300,9 +303,9 @@ fn read_li(operands: Operands) -> Result<Statement, StatementError>
 fn read_unary(
     op: ImmediateOp,
     imm: Immediate12,
-    operands: Operands,
+    operands: &Operands<'_>,
 ) -> Result<Statement, StatementError>
-    ensures { result ≡ formats.unary op imm operands }
+    ensures { result ≡ formats.unary op imm operands.now }
 {
     let Some((rd, rs1)) = two_registers(operands) else {
         return Err(StatementError::NoInstruction);
@@ -311,8 +314,8 @@ fn read_unary(
 }
 
 /// One on two registers, the first of them x0.
-fn read_from_zero(op: RegisterOp, operands: Operands) -> Result<Statement, StatementError>
-    ensures { result ≡ formats.from_zero op operands }
+fn read_from_zero(op: RegisterOp, operands: &Operands<'_>) -> Result<Statement, StatementError>
+    ensures { result ≡ formats.from_zero op operands.now }
 {
     let Some((rd, rs2)) = two_registers(operands) else {
         return Err(StatementError::NoInstruction);
@@ -322,8 +325,8 @@ fn read_from_zero(op: RegisterOp, operands: Operands) -> Result<Statement, State
 }
 
 /// The statement of a mnemonic that takes neither aq nor rl.
-pub(crate) fn read_plain(plain: Plain, operands: Operands) -> Result<Statement, StatementError>
-    ensures { result ≡ formats.plain_statement plain operands }
+pub(crate) fn read_plain(plain: Plain, operands: &Operands<'_>) -> Result<Statement, StatementError>
+    ensures { result ≡ formats.plain_statement plain operands.now }
 {
     match plain {
         Plain::Upper(op) => read_upper(op, operands),
@@ -356,8 +359,11 @@ pub(crate) fn read_plain(plain: Plain, operands: Operands) -> Result<Statement, 
     }
 }
 
-fn read_load_reserved(bits: Annotations, operands: Operands) -> Result<Statement, StatementError>
-    ensures { result ≡ formats.load_reserved bits operands }
+fn read_load_reserved(
+    bits: Annotations,
+    operands: &Operands<'_>,
+) -> Result<Statement, StatementError>
+    ensures { result ≡ formats.load_reserved bits operands.now }
 {
     let Some((rd, address)) = register_and_target(operands) else {
         return Err(StatementError::NoInstruction);
@@ -370,9 +376,9 @@ fn read_load_reserved(bits: Annotations, operands: Operands) -> Result<Statement
 
 fn read_store_conditional(
     bits: Annotations,
-    operands: Operands,
+    operands: &Operands<'_>,
 ) -> Result<Statement, StatementError>
-    ensures { result ≡ formats.store_conditional bits operands }
+    ensures { result ≡ formats.store_conditional bits operands.now }
 {
     let Some((rd, rs2, address)) = two_registers_and_target(operands) else {
         return Err(StatementError::NoInstruction);
@@ -383,8 +389,12 @@ fn read_store_conditional(
     Ok(Statement::One(Instr::Sc { rd, rs1, rs2, bits }))
 }
 
-fn read_amo(op: AmoOp, bits: Annotations, operands: Operands) -> Result<Statement, StatementError>
-    ensures { result ≡ formats.amo op bits operands }
+fn read_amo(
+    op: AmoOp,
+    bits: Annotations,
+    operands: &Operands<'_>,
+) -> Result<Statement, StatementError>
+    ensures { result ≡ formats.amo op bits operands.now }
 {
     let Some((rd, rs2, address)) = two_registers_and_target(operands) else {
         return Err(StatementError::NoInstruction);
@@ -405,9 +415,9 @@ fn read_amo(op: AmoOp, bits: Annotations, operands: Operands) -> Result<Statemen
 pub(crate) fn read_atomic(
     atomic: Atomic,
     bits: Annotations,
-    operands: Operands,
+    operands: &Operands<'_>,
 ) -> Result<Statement, StatementError>
-    ensures { result ≡ formats.atomic_statement atomic bits operands }
+    ensures { result ≡ formats.atomic_statement atomic bits operands.now }
 {
     match atomic {
         Atomic::Lr => read_load_reserved(bits, operands),

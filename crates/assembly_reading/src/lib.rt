@@ -15,6 +15,7 @@ mod statement;
 mod suffix;
 #[cfg(test)]
 mod tests;
+mod word;
 
 pub use formats::load_word;
 pub use laws::spelling_reads_back;

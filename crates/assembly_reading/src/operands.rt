@@ -4,30 +4,29 @@ ghost use Rattle.std.specs.Option.{option_map};
 ghost use Rattle.assembly_reading.specs.Operands as operands;
 
 use crate::registers::register_of;
+use crate::word::{Word, word_at};
 use rv32_decode::Register;
-use text_words::{
-    Name, Number, name_at, negated_of, number_of, signed_at, skip_blanks, split_word, symbol_at,
-};
+use text_words::{Number, negated_of, number_of, signed_at, skip_blanks, split_word, symbol_at};
 
 /// One operand.
-#[derive(Clone, Copy)]
-pub(crate) enum Operand {
+#[derive(Drop)]
+pub(crate) enum Operand<'a> {
     Register(Register),
     Number(Number),
     /// An offset, and the register that has an address.
     Address(Number, Register),
     /// How far from the instruction itself, as `.+8`.
     Distance(Number),
-    Name(Name),
+    Name(Word<'a>),
 }
 
 /// All operands.
-#[derive(Clone, Copy)]
-pub(crate) enum Operands {
+#[derive(Drop)]
+pub(crate) enum Operands<'a> {
     None,
-    One(Operand),
-    Two(Operand, Operand),
-    Three(Operand, Operand, Operand),
+    One(Operand<'a>),
+    Two(Operand<'a>, Operand<'a>),
+    Three(Operand<'a>, Operand<'a>, Operand<'a>),
 }
 
 #[tactic(auto, unfolding(crate::specs::Operands::register_at))]
@@ -40,7 +39,7 @@ fn register_at(bytes: &[u8]) -> Option<(Register, &[u8])>
 }
 
 #[tactic(auto, unfolding(crate::specs::Operands::register_operand_at))]
-fn register_operand_at(bytes: &[u8]) -> Option<(Operand, &[u8])>
+fn register_operand_at(bytes: &[u8]) -> Option<(Operand<'_>, &[u8])>
     ensures { option_map (λ x. (x.0, x.1.now)) result ≡ operands.register_operand_at bytes.now }
 {
     let Some((register, rest)) = register_at(bytes) else {
@@ -64,7 +63,7 @@ fn base_at(bytes: &[u8]) -> Option<(Register, &[u8])>
 
 /// A number, or an address if a register in parentheses follows.
 #[tactic(auto, unfolding(crate::specs::Operands::number_operand_at))]
-fn number_operand_at(bytes: &[u8]) -> Option<(Operand, &[u8])>
+fn number_operand_at(bytes: &[u8]) -> Option<(Operand<'_>, &[u8])>
     ensures { option_map (λ x. (x.0, x.1.now)) result ≡ operands.number_operand_at bytes.now }
 {
     let (number, rest) = signed_at(bytes)?;
@@ -76,7 +75,7 @@ fn number_operand_at(bytes: &[u8]) -> Option<(Operand, &[u8])>
 
 /// An address without an offset.
 #[tactic(auto, unfolding(crate::specs::Operands::address_at))]
-fn address_at(bytes: &[u8]) -> Option<(Operand, &[u8])>
+fn address_at(bytes: &[u8]) -> Option<(Operand<'_>, &[u8])>
     ensures { option_map (λ x. (x.0, x.1.now)) result ≡ operands.address_at bytes.now }
 {
     let Some((base, rest)) = base_at(bytes) else {
@@ -87,7 +86,7 @@ fn address_at(bytes: &[u8]) -> Option<(Operand, &[u8])>
 
 /// A distance forward.
 #[tactic(auto, unfolding(crate::specs::Operands::forward_at))]
-fn forward_at(bytes: &[u8]) -> Option<(Operand, &[u8])>
+fn forward_at(bytes: &[u8]) -> Option<(Operand<'_>, &[u8])>
     ensures { option_map (λ x. (x.0, x.1.now)) result ≡ operands.forward_at bytes.now }
 {
     let rest = symbol_at(b".+", bytes)?;
@@ -98,7 +97,7 @@ fn forward_at(bytes: &[u8]) -> Option<(Operand, &[u8])>
 
 /// A distance backward.
 #[tactic(auto, unfolding(crate::specs::Operands::backward_at))]
-fn backward_at(bytes: &[u8]) -> Option<(Operand, &[u8])>
+fn backward_at(bytes: &[u8]) -> Option<(Operand<'_>, &[u8])>
     ensures { option_map (λ x. (x.0, x.1.now)) result ≡ operands.backward_at bytes.now }
 {
     let rest = symbol_at(b".-", bytes)?;
@@ -108,17 +107,17 @@ fn backward_at(bytes: &[u8]) -> Option<(Operand, &[u8])>
 }
 
 #[tactic(auto, unfolding(crate::specs::Operands::name_operand_at))]
-fn name_operand_at(bytes: &[u8]) -> Option<(Operand, &[u8])>
+fn name_operand_at(bytes: &[u8]) -> Option<(Operand<'_>, &[u8])>
     ensures { option_map (λ x. (x.0, x.1.now)) result ≡ operands.name_operand_at bytes.now }
 {
-    let Some((name, rest)) = name_at(bytes) else {
+    let Some((word, rest)) = word_at(bytes) else {
         return None;
     };
-    Some((Operand::Name(name), rest))
+    Some((Operand::Name(word), rest))
 }
 
 #[tactic(auto, unfolding(crate::specs::Operands::operand_at))]
-fn operand_at(bytes: &[u8]) -> Option<(Operand, &[u8])>
+fn operand_at(bytes: &[u8]) -> Option<(Operand<'_>, &[u8])>
     ensures { option_map (λ x. (x.0, x.1.now)) result ≡ operands.operand_at bytes.now }
 {
     if let Some(found) = register_operand_at(bytes) {
@@ -147,8 +146,8 @@ fn is_end(bytes: &[u8]) -> bool
 }
 
 #[tactic(auto, unfolding(crate::specs::Operands::third_of))]
-fn third_of(first: Operand, second: Operand, bytes: &[u8]) -> Option<Operands>
-    ensures { result ≡ operands.third_of first second bytes.now }
+fn third_of<'a>(first: Operand<'a>, second: Operand<'a>, bytes: &'a [u8]) -> Option<Operands<'a>>
+    ensures { result ≡ operands.third_of first.entry second.entry bytes.now }
 {
     if is_end(bytes) {
         return Some(Operands::Two(first, second));
@@ -165,8 +164,8 @@ fn third_of(first: Operand, second: Operand, bytes: &[u8]) -> Option<Operands>
 }
 
 #[tactic(auto, unfolding(crate::specs::Operands::second_of))]
-fn second_of(first: Operand, bytes: &[u8]) -> Option<Operands>
-    ensures { result ≡ operands.second_of first bytes.now }
+fn second_of<'a>(first: Operand<'a>, bytes: &'a [u8]) -> Option<Operands<'a>>
+    ensures { result ≡ operands.second_of first.entry bytes.now }
 {
     if is_end(bytes) {
         return Some(Operands::One(first));
@@ -180,7 +179,7 @@ fn second_of(first: Operand, bytes: &[u8]) -> Option<Operands>
 
 /// All that stands there, with commas between.
 #[tactic(auto, unfolding(crate::specs::Operands::operands_of))]
-pub(crate) fn operands_of(bytes: &[u8]) -> Option<Operands>
+pub(crate) fn operands_of(bytes: &[u8]) -> Option<Operands<'_>>
     ensures { result ≡ operands.operands_of bytes.now }
 {
     if is_end(bytes) {

@@ -18,11 +18,11 @@ fn read_form(form: Form, bits: Annotations, bytes: &[u8]) -> Result<Statement, S
         Form::Other => Err(StatementError::OtherArchitecture),
         Form::Plain(_) if bits.acquire || bits.release => Err(StatementError::OtherArchitecture),
         Form::Plain(plain) => match operands_of(bytes) {
-            Some(operands) => read_plain(plain, operands),
+            Some(operands) => read_plain(plain, &operands),
             None => Err(StatementError::NoInstruction),
         },
         Form::Atomic(atomic) => match operands_of(bytes) {
-            Some(operands) => read_atomic(atomic, bits, operands),
+            Some(operands) => read_atomic(atomic, bits, &operands),
             None => Err(StatementError::NoInstruction),
         },
     }

@@ -4,7 +4,7 @@ use Rattle.std.specs.Prelude.{codes}
 use Rattle.std.specs.List.{drop-map}
 use Rattle.std.specs.Str.{bytes_eq}
 use Rattle.command_files.specs.Contents.{Contents}
-use Rattle.command_line.specs.Program.{IsOfLitmus, names_litmus}
+use Rattle.command_line.specs.Program.{names_litmus}
 use Rattle.litmus_command.specs.Line.{IsLine}
 
 module _ {X : Type 0} (text : X → List ℕ) where
@@ -24,9 +24,6 @@ module _ {X : Type 0} (text : X → List ℕ) where
   has_command (program ∷ other ∷ words) is = omega arith
 
   -- the words behind it were done
-  pub of_litmus : (words others : List X) (held left : Contents) (old new : Option (List ℕ)) (status : ℕ) → others ≡ drop 2 words → left ≡ held → IsLine (map text others) held old new status
-      → IsOfLitmus (map text words) held left old new status
-  of_litmus words others held left old new status behind stays done = record {
-    stays = stays;
-    done = subst (λ (l : List (List ℕ)). IsLine l held old new status) (ap (map text) behind ∙ sym (drop-map text 2 words)) done;
-  }
+  pub of_litmus : (words others : List X) (held left : Contents) (old new before after : Option (List ℕ)) (status : ℕ) → others ≡ drop 2 words → IsLine (map text others) held left old new before after status
+      → IsLine (drop 2 (map text words)) held left old new before after status
+  of_litmus words others held left old new before after status behind done = subst (λ (l : List (List ℕ)). IsLine l held left old new before after status) (ap (map text) behind ∙ sym (drop-map text 2 words)) done

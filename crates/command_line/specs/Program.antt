@@ -1,5 +1,5 @@
 -- What the whole program has done, by its status.
-use Rattle.std.specs.Prelude.{◌≡◌, ◌≢◌, ◌⊎◌, ◌≤◌, ◌<◌, ℕ, Bool, false, [], ◌∷◌, List, Option, codes, drop}
+use Rattle.std.specs.Prelude.{◌≡◌, ◌≢◌, ◌⊎◌, ◌≤◌, ◌<◌, ℕ, Bool, false, [], ◌∷◌, List, Option, codes}
 use Rattle.std.specs.Str.{bytes_eq}
 use Rattle.clap.specs.Words.{Text}
 use Rattle.command_files.specs.Contents.{Contents}
@@ -7,7 +7,6 @@ use Rattle.command_line.specs.Running.{AreMisused, HasNamed, HasNoted, IsCarried
 use Rattle.command_line.specs.Telling.{HasToldFault, HasToldMisuse, HasToldWant}
 use Rattle.command_settings.specs.Refusals.{IsFitting, IsForHelp, IsUnfit}
 use Rattle.command_files.specs.declared.allowing.Judgement.TheVariants.{NotAllowed}
-use Rattle.litmus_command.specs.Line.{IsLine}
 
 -- behind the program's name stands `litmus`
 abbrev pub names_litmus : List Text → Bool
@@ -30,8 +29,3 @@ pub record IsOfLine (words : List Text) (held left : Contents) (old new before a
   pub unfit : ¬ IsFitting words → ¬ IsForHelp words → (status ≡ 2) ⊎ (status ≡ 4)
   pub spared : Spares words held left
   pub untouched : status ≡ 2 → left ≡ held
-
--- files stay as they were, and the words behind `litmus` were done
-pub record IsOfLitmus (words : List Text) (held left : Contents) (old new : Option (List ℕ)) (status : ℕ) : Type 0 where
-  pub stays : left ≡ held
-  pub done : IsLine (drop 2 words) held old new status

@@ -1,6 +1,7 @@
 //! The whole program `rvtl`: which command the first word names.
-ghost use Rattle.std.specs.Prelude.{◌≡◌, false, map, true};
-ghost use Rattle.command_line.specs.Program.{IsOfLine, IsOfLitmus, names_litmus};
+ghost use Rattle.std.specs.Prelude.{◌≡◌, drop, false, map, true};
+ghost use Rattle.command_line.specs.Program.{IsOfLine, names_litmus};
+ghost use Rattle.litmus_command.specs.Line.{IsLine};
 
 use crate::running::run_line;
 use command_files::Files;
@@ -34,11 +35,11 @@ pub fn run_program<
     E: Write,
     P: Progress + Sync,
 >(rt: &R, alloc: Global, words: &[S], files: &mut F, out: &mut O, err: &mut E, progress: &P) -> u8
-    ensures litmus { names_litmus (map S.text words.now) ≡ true → IsOfLitmus (map S.text words.now) (F.held files.old) (F.held files.new) (O.contents out.old) (O.contents out.new) result }
+    ensures litmus { names_litmus (map S.text words.now) ≡ true → IsLine (drop 2 (map S.text words.now)) (F.held files.old) (F.held files.new) (O.contents out.old) (O.contents out.new) (E.contents err.old) (E.contents err.new) result }
     ensures others { names_litmus (map S.text words.now) ≡ false → IsOfLine (map S.text words.now) (F.held files.old) (F.held files.new) (O.contents out.old) (O.contents out.new) (E.contents err.old) (E.contents err.new) result }
 {
     if is_litmus(words) {
-        litmus_line(alloc, &words[2..], files, out, err)
+        litmus_line(rt, alloc, &words[2..], files, out, err, progress)
     } else {
         run_line(rt, alloc, words, files, out, err, progress)
     }

@@ -21,5 +21,6 @@ pub use holding::{Scene, holds, shown};
 pub use laws::blocks_read_back;
 pub use layout::{Layout, layout_of};
 pub use locations::address_at;
+pub use parts::parts_of;
 pub use reading::{Entry, entries_of};
 pub use report::Report;

@@ -126,11 +126,7 @@ fn part_of(alloc: Global, test: &Test, names: &[Vec<u8>], hart: u8) -> Result<Pa
 
 /// What a test has for each hart, locations being of these names.
 #[tactic(auto, using(crate::proofs::Parting::one_more))]
-pub(crate) fn parts_of(
-    alloc: Global,
-    test: &Test,
-    names: &[Vec<u8>],
-) -> Result<Vec<Part>, AllocError>
+pub fn parts_of(alloc: Global, test: &Test, names: &[Vec<u8>]) -> Result<Vec<Part>, AllocError>
     requires { length names.now ≤ 64 }
     ensures { IfOk result (λ parts. layouts.AreParts (meaning test.now) names.now parts.items) }
 {

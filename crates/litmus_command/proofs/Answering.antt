@@ -1,10 +1,11 @@
 -- A test's answer, or what is told in its place.
 use Rattle.std.proofs.Common.{◌≡◌, ℕ, Bool, List, Ok, inl, inr, subst, sym}
-use Rattle.litmus_answers.specs.Faults.{IsFault, MakesNoProgram}
+use Rattle.litmus_answers.specs.Faults.{IsFault}
 use Rattle.litmus_answers.specs.Layouts.{IsLayout}
 use Rattle.litmus_answers.specs.declared.layout.Layout.{Layout}
 use Rattle.litmus_command.specs.Answers.{AnswersTest, IsAnswer, IsHalt, IsSearch}
-use Rattle.litmus_command.specs.Ended.{IsStop, IsTrouble, TellsStop}
+use Rattle.litmus_command.specs.Files.{File}
+use Rattle.litmus_command.specs.Ended.{IsTrouble, TellsStop}
 use Rattle.litmus_command.specs.Programs.{IsNoProgram, IsProgram}
 use Rattle.litmus_command.specs.States.{IsStopIn}
 use Rattle.litmus_command.specs.declared.program.Program.{Program}
@@ -16,28 +17,25 @@ use Rattle.litmus_command.specs.declared.fault.Halt.TheVariants as halt
 use Rattle.litmus_command.specs.declared.fault.Trouble.{Trouble}
 use Rattle.litmus_command.specs.declared.fault.Trouble.TheVariants as trouble
 use Rattle.litmus_parts.specs.Stops.{Refuses}
-use Rattle.litmus_parts.specs.declared.stop.Cause.{Cause}
 use Rattle.litmus_parts.specs.declared.stop.Stop.{Stop}
 use Rattle.litmus_parts.specs.declared.stop.Stop.TheVariants.{At, Memory}
 use Rattle.litmus_text.specs.Tests.{Meaning, meaning, test_in}
 use Rattle.litmus_text.specs.declared.test.Test.{Test}
 
 -- the bytes are no test
-pub no_test : (bytes : List ℕ) (w : Wishes) (stop : Stop) (told : Trouble) → TellsStop bytes stop told → Refuses stop (test_in bytes) → IsTrouble bytes w told
+pub no_test : (bytes : List ℕ) (w : Wishes) (stop : Stop) (told : Trouble) → TellsStop stop told → Refuses stop (test_in bytes) → IsTrouble bytes w told
 no_test bytes w Memory told is refuses = subst (IsTrouble bytes w) (sym is) tt
-no_test bytes w (At cause left) (trouble.Text line why found) is refuses = (left, is.0, subst (λ (c : Cause). IsStop bytes c left) (sym is.1) (inl refuses))
-no_test bytes w (At cause left) (trouble.Halts halt) is refuses = absurd is
+no_test bytes w (At cause left) told is refuses = subst (IsTrouble bytes w) (sym is) (inl refuses)
 
 -- they are a test that makes no program
-pub no_program : (bytes : List ℕ) (w : Wishes) (test : Meaning) (stop : Stop) (told : Trouble) → TellsStop bytes stop told → test_in bytes ≡ Ok test → IsFault test stop → IsTrouble bytes w told
+pub no_program : (bytes : List ℕ) (w : Wishes) (test : Meaning) (stop : Stop) (told : Trouble) → TellsStop stop told → test_in bytes ≡ Ok test → IsFault test stop → IsTrouble bytes w told
 no_program bytes w test Memory told is of fault = subst (IsTrouble bytes w) (sym is) tt
-no_program bytes w test (At cause left) (trouble.Text line why found) is of fault = (left, is.0, inr (test, of, subst (λ (c : Cause). MakesNoProgram test c left) (sym is.1) fault))
-no_program bytes w test (At cause left) (trouble.Halts halt) is of fault = absurd is
+no_program bytes w test (At cause left) told is of fault = subst (IsTrouble bytes w) (sym is) (inr (test, of, fault))
 
 -- they are a test that was answered
-pub is_answered : (bytes : List ℕ) (test : Test) (layout : Layout) (w : Wishes) (text : List ℕ) (is_proved : Bool) → test_in bytes ≡ Ok (meaning test) → IsLayout (meaning test) layout → IsAnswer test layout w text is_proved
-    → AnswersTest bytes w text is_proved
-is_answered bytes test layout w text is_proved of laid answer = record { test = test; is_test = of; layout = layout; is_layout = laid; is_answer = answer }
+pub is_answered : (bytes : List ℕ) (test : Test) (layout : Layout) (w : Wishes) (text : List ℕ) (is_proved : Bool) (files : List File) → test_in bytes ≡ Ok (meaning test) → IsLayout (meaning test) layout → IsAnswer test layout w text is_proved files
+    → AnswersTest bytes w text is_proved files
+is_answered bytes test layout w text is_proved files of laid answer = record { test = test; is_test = of; layout = layout; is_layout = laid; is_answer = answer }
 
 -- they are a test that isn't answered
 pub is_halted : (bytes : List ℕ) (test : Test) (layout : Layout) (w : Wishes) (why : Halt) → test_in bytes ≡ Ok (meaning test) → IsLayout (meaning test) layout → IsHalt test layout w why → IsTrouble bytes w (trouble.Halts why)

@@ -1,24 +1,34 @@
 -- How files end, one by one.
-use Rattle.std.proofs.Common.{◌≡◌, ℕ, Bool, true, false, List, [], Option, Some, None, Err, inl, inr, refl, subst, sym}
+use Rattle.std.proofs.Common.{◌≡◌, ℕ, Bool, true, false, List, [], ◌∷◌, ◌++◌, Option, Some, None, Err, inl, inr, refl, subst, sym}
 use Rattle.std.specs.Prelude.{IsSome, is_none, if◌then◌else◌}
+use Rattle.std.specs.Borrow.{Bor}
 use Rattle.std.specs.Io.KnownBytes.{Appends}
 use Rattle.std.proofs.lemmas.Bool.{false≢true}
+use Rattle.std.proofs.lemmas.List.{append-nil}
 use Rattle.command_files.specs.Contents.{Contents, HoldsBytes}
+use Rattle.command_files.specs.Faults.{IsReadFault}
+use Rattle.command_files.specs.Messages.{IsToldOf}
+use Rattle.command_files.specs.declared.fault.Fault.{Fault}
+use Rattle.command_files.specs.declared.fault.Fault.TheVariants.{CannotRead}
 use Rattle.litmus_answers.proofs.Faults.{is_fault}
 use Rattle.litmus_command.specs.Answers.{AnswersTest}
 use Rattle.litmus_command.specs.Comparing.{AreLogs, Logged, as_logged, logged}
-use Rattle.litmus_command.specs.Ended.{Ends, IsAnswered, IsEnd, IsHeldBack, IsPrinted, IsRefused, IsSent, IsStop, IsTrouble, IsUnread, HasOther, is_other}
+use Rattle.litmus_command.specs.Files.{File}
+use Rattle.litmus_command.specs.Ended.{Ends, IsAnswered, IsEnd, IsGiven, IsHeldBack, IsPrinted, IsRefused, IsSent, IsStop, IsTrouble, IsUnread, HasOther, Unread, is_other, is_want}
+use Rattle.litmus_command.specs.Telling.{AreTold, Message, of_trouble, unread_message}
+use Rattle.litmus_command.proofs.Told.{one_told}
 use Rattle.litmus_command.specs.Waiting.{are_named}
 use Rattle.litmus_command.specs.Wishes.{Wishes, are_compared}
 use Rattle.litmus_command.specs.declared.logs.Logs.{Logs}
 use Rattle.litmus_command.proofs.Logged.{as_named}
 use Rattle.litmus_command.specs.declared.ended.Ended.{Ended}
 use Rattle.litmus_command.specs.declared.ended.Ended.TheVariants.{Answered, Differs, Skipped, Failed, Closed, NoMemory}
+use Rattle.litmus_command.specs.declared.fault.Halt.TheVariants as halt
 use Rattle.litmus_command.specs.declared.fault.Trouble.{Trouble}
 use Rattle.litmus_command.specs.declared.fault.Trouble.TheVariants as trouble
 use Rattle.litmus_parts.specs.Stops.{fault_of}
 use Rattle.litmus_parts.specs.declared.stop.Cause.{Cause}
-use Rattle.litmus_parts.specs.declared.stop.Fault.{Fault}
+use Rattle.litmus_parts.specs.declared.stop.Fault.{Fault as Kind}
 use Rattle.litmus_parts.specs.declared.stop.Stop.TheVariants.{At}
 use Rattle.litmus_text.specs.Tests.{test_in}
 use Rattle.text_fields.proofs.Written.{appends_none}
@@ -45,69 +55,113 @@ unsent logs text is_proved old false is same = absurd cc
 
 -- ---- how a file ends
 
-none_of : (fault : Option Fault) → is_none fault ≡ true → fault ≡ None
+none_of : (fault : Option Kind) → is_none fault ≡ true → fault ≡ None
 none_of None e = refl
 none_of (Some fault) e = absurd cc
 
 -- what is no fault is no test's
 stop_of : (bytes : List ℕ) (cause : Cause) (left : ℕ) → IsStop bytes cause left → fault_of cause ≡ None → test_in bytes ≡ Err (At cause left)
 stop_of bytes cause left (inl e) none = e
-stop_of bytes cause left (inr made) none = absurd (false≢true (subst (λ (fault : Option Fault). IsSome fault) none (is_fault made.0 cause left made.2)))
+stop_of bytes cause left (inr made) none = absurd (false≢true (subst (λ (fault : Option Kind). IsSome fault) none (is_fault made.0 cause left made.2)))
+
+-- ---- files that can't be read
+
+pub told_unread : (name file : Bor (List ℕ)) (fault : Fault) (a b : Option (List ℕ)) → fault ≡ CannotRead file → IsReadFault name fault → IsToldOf (CannotRead file) a b → Unread name.now a b Failed
+told_unread name file fault a b is read told =
+    let same : file ≡ name = subst (IsReadFault name) is read in
+    record { told = unread_message name.now ∷ []; is_unread = refl; are_told = one_told (unread_message name.now) a b (subst (λ (f : Bor (List ℕ)). IsToldOf (CannotRead f) a b) same told) }
+
+-- memory was refused behind that
+pub starved_of : (name : List ℕ) (a b : Option (List ℕ)) → b ≡ a → Unread name a b NoMemory
+starved_of name a b same = record { told = []; is_unread = refl; are_told = same }
+
+pub unread_of : (name name' : List ℕ) (a b : Option (List ℕ)) (e : Ended) → name' ≡ name → Unread name a b e → Unread name' a b e
+unread_of name name' a b e same is = subst (λ (n : List ℕ). Unread n a b e) (sym same) is
 
 module _ (held : Contents) (w : Wishes) (name : List ℕ) where
-  quietly : (old : Option (List ℕ)) (e : Ended) → IsEnd held w name e [] → Ends held w name old old e
-  quietly old e is = record { sent = []; is_end = is; went = appends_none old }
-
   -- nothing goes out of a file that can't be read
-  pub unread_end : (e : Ended) → IsUnread e → IsEnd held w name e []
-  unread_end (Answered is_proved) is = absurd is
-  unread_end (Differs is_proved) is = absurd is
-  unread_end Skipped is = absurd is
-  unread_end Failed is = refl
-  unread_end Closed is = absurd is
-  unread_end NoMemory is = refl
+  pub unread_end : (e : Ended) (told : List Message) → IsUnread name e told → IsEnd held w name e [] [] told
+  unread_end (Answered is_proved) told is = absurd is
+  unread_end (Differs is_proved) told is = absurd is
+  unread_end Skipped told is = absurd is
+  unread_end Failed told is = (inl is, refl, refl)
+  unread_end Closed told is = absurd is
+  unread_end NoMemory told is = (refl, is)
 
-  pub unread : (old : Option (List ℕ)) (e : Ended) → IsUnread e → Ends held w name old old e
-  unread old e is = quietly old e (unread_end e is)
+  pub unread : (old a b : Option (List ℕ)) (kept : List File) (e : Ended) → Unread name a b e → Ends held w name old old a b kept kept e
+  unread old a b kept e is = record { sent = []; files = []; told = is.told; is_end = unread_end e is.told is.is_unread; went = appends_none old; are_told = is.are_told; kept = sym (append-nil kept) }
 
-  other : (bytes : List ℕ) (why : Trouble) → HoldsBytes held name bytes → IsTrouble bytes w why → is_other why ≡ true → HasOther held name
-  other bytes (trouble.Text line cause found) holds is skipped =
+  -- an answer was found, and there was no memory for what explains it
+  unkept : (old a : Option (List ℕ)) (kept : List File) → Ends held w name old old a a kept kept NoMemory
+  unkept old a kept = record { sent = []; files = []; told = []; is_end = (refl, refl); went = appends_none old; are_told = refl; kept = sym (append-nil kept) }
+
+  other : (bytes : List ℕ) (why : Trouble) → HoldsBytes held name bytes → IsTrouble bytes w why → is_other why ≡ true → HasOther held name (of_trouble name bytes why)
+  other bytes (trouble.Text cause left) holds is skipped =
       let none = none_of (fault_of cause) skipped in
-      (bytes, holds, (cause, is.0, stop_of bytes cause is.0 is.2 none, none))
+      (bytes, holds, (cause, left, stop_of bytes cause left is none, none, refl))
   other bytes (trouble.Halts halt) holds is skipped = absurd cc
 
+  none_told : (bytes : List ℕ) (why : Trouble) → is_want why ≡ true → of_trouble name bytes why ≡ []
+  none_told bytes (trouble.Text cause left) is = absurd cc
+  none_told bytes (trouble.Halts (halt.Stops hart cause)) is = absurd cc
+  none_told bytes (trouble.Halts halt.Unfit) is = absurd cc
+  none_told bytes (trouble.Halts halt.NoMemory) is = refl
+
+  refused_end : (bytes : List ℕ) (why : Trouble) (e : Ended) → HoldsBytes held name bytes → IsTrouble bytes w why → IsRefused why e → IsEnd held w name e [] [] (of_trouble name bytes why)
+  refused_end bytes why (Answered is_proved) holds is so = absurd so
+  refused_end bytes why (Differs is_proved) holds is so = absurd so
+  refused_end bytes why Skipped holds is so = (other bytes why holds is so, refl, refl)
+  refused_end bytes why Failed holds is so = (inr (bytes, holds, (why, is, so.0, so.1, refl)), refl, refl)
+  refused_end bytes why Closed holds is so = absurd so
+  refused_end bytes why NoMemory holds is so = (refl, none_told bytes why so)
+
   -- nothing goes out of one that has no test
-  pub refused : (bytes : List ℕ) (old : Option (List ℕ)) (why : Trouble) (e : Ended) → HoldsBytes held name bytes → IsTrouble bytes w why → IsRefused why e → Ends held w name old old e
-  refused bytes old why (Answered is_proved) holds is so = absurd so
-  refused bytes old why (Differs is_proved) holds is so = absurd so
-  refused bytes old why Skipped holds is so = quietly old Skipped (other bytes why holds is so, refl)
-  refused bytes old why Failed holds is so = quietly old Failed refl
-  refused bytes old why Closed holds is so = absurd so
-  refused bytes old why NoMemory holds is so = quietly old NoMemory refl
+  pub refused : (bytes : List ℕ) (old a b : Option (List ℕ)) (kept : List File) (why : Trouble) (e : Ended) → HoldsBytes held name bytes → IsTrouble bytes w why → IsRefused why e → AreTold (of_trouble name bytes why) a b → Ends held w name old old a b kept kept e
+  refused bytes old a b kept why e holds is so told = record { sent = []; files = []; told = of_trouble name bytes why; is_end = refused_end bytes why e holds is so; went = appends_none old; are_told = told; kept = sym (append-nil kept) }
 
   held_back : (logs : Logged) (text : List ℕ) (compared : Bool) → AreLogs held w logs → (compared ≡ true → as_logged logs text ≡ true) → IsHeldBack held w compared text (if compared then [] else text)
   held_back logs text false are same = refl
   held_back logs text true are same = (record { logs = logs; are_logs = are; judged = same refl }, refl)
 
   -- an answer to the test that the file's bytes say went out, or was held back, or can't go out
-  pub printed : (logs : Logged) (text : List ℕ) (is_proved : Bool) (old new : Option (List ℕ)) (e : Ended) → AreLogs held w logs → IsAnswered held w name text is_proved → IsPrinted logs (are_compared w) text is_proved old new e
-      → Ends held w name old new e
-  printed logs text is_proved old new (Answered told) are answered is = record {
+  pub printed : (logs : Logged) (text : List ℕ) (is_proved : Bool) (files before after : List File) (old new a : Option (List ℕ)) (e : Ended) → AreLogs held w logs → IsAnswered held w name text is_proved files → after ≡ before ++ files → IsPrinted logs (are_compared w) text is_proved old new e
+      → Ends held w name old new a a before after e
+  printed logs text is_proved files before after old new a (Answered told) are answered more is = record {
     sent = if are_compared w then [] else text;
-    is_end = (text, subst (IsAnswered held w name text) (sym is.0) answered, held_back logs text (are_compared w) are is.1);
+    files = files;
+    told = [];
+    are_told = refl;
+    kept = more;
+    is_end = ((text, subst (λ (b : Bool). IsAnswered held w name text b files) (sym is.0) answered, held_back logs text (are_compared w) are is.1), refl);
     went = is.2;
   }
-  printed logs text is_proved old new (Differs told) are answered is = record {
+  printed logs text is_proved files before after old new a (Differs told) are answered more is = record {
     sent = text;
-    is_end = (subst (IsAnswered held w name text) (sym is.0) answered, is.1, record { logs = logs; are_logs = are; judged = is.2 });
+    files = files;
+    told = [];
+    are_told = refl;
+    kept = more;
+    is_end = ((subst (λ (b : Bool). IsAnswered held w name text b files) (sym is.0) answered, is.1, record { logs = logs; are_logs = are; judged = is.2 }), refl);
     went = is.3;
   }
-  printed logs text is_proved old new Skipped are answered is = absurd is
-  printed logs text is_proved old new Failed are answered is = absurd is
-  printed logs text is_proved old new Closed are answered is = record { sent = is.front; is_end = (text, is_proved, answered, (is.rest, is.parts)); went = is.sent }
-  printed logs text is_proved old new NoMemory are answered is = record { sent = []; is_end = refl; went = subst (λ (n : Option (List ℕ)). Appends old n []) (sym is) (appends_none old) }
+  printed logs text is_proved files before after old new a Skipped are answered more is = absurd is
+  printed logs text is_proved files before after old new a Failed are answered more is = absurd is
+  printed logs text is_proved files before after old new a Closed are answered more is = record { sent = is.front; files = files; told = []; are_told = refl; kept = more; is_end = ((text, is_proved, files, answered, (is.rest, is.parts)), refl); went = is.sent }
+  printed logs text is_proved files before after old new a NoMemory are answered more is = record { sent = []; files = files; told = []; are_told = refl; kept = more; is_end = (refl, refl); went = subst (λ (n : Option (List ℕ)). Appends old n []) (sym is) (appends_none old) }
 
-  pub answered : (logs : Logs) (bytes text : List ℕ) (is_proved : Bool) (old new : Option (List ℕ)) (e : Ended) → AreLogs held w (logged logs) → HoldsBytes held name bytes → AnswersTest bytes w text is_proved
-      → IsPrinted (logged logs) (are_named logs) text is_proved old new e → Ends held w name old new e
-  answered logs bytes text is_proved old new e are holds answer is =
-      printed (logged logs) text is_proved old new e are (bytes, holds, answer) (subst (λ c. IsPrinted (logged logs) c text is_proved old new e) (as_named held w logs are) is)
+  given : (logs : Logged) (text : List ℕ) (is_proved : Bool) (files before after : List File) (old new a : Option (List ℕ)) (e : Ended) → AreLogs held w logs → IsAnswered held w name text is_proved files → IsGiven logs (are_compared w) text is_proved files old new before after e
+      → Ends held w name old new a a before after e
+  given logs text is_proved files before after old new a e are answered (inl is) = printed logs text is_proved files before after old new a e are answered is.1 is.0
+  given logs text is_proved files before after old new a e are answered (inr is) =
+      subst (λ (n : Option (List ℕ)). Ends held w name old n a a before after e) (sym is.1) (subst (λ (l : List File). Ends held w name old old a a before l e) (sym is.2) (subst (Ends held w name old old a a before before) (sym is.0) (unkept old a before)))
+
+  -- it was found before its turn came
+  pub given_early : (logs : Logs) (text : List ℕ) (is_proved : Bool) (files before after : List File) (old new a : Option (List ℕ)) (e : Ended) → AreLogs held w (logged logs) → IsAnswered held w name text is_proved files
+      → IsGiven (logged logs) (are_named logs) text is_proved files old new before after e → Ends held w name old new a a before after e
+  given_early logs text is_proved files before after old new a e are found is =
+      given (logged logs) text is_proved files before after old new a e are found (subst (λ c. IsGiven (logged logs) c text is_proved files old new before after e) (as_named held w logs are) is)
+
+  pub answered : (logs : Logs) (bytes text : List ℕ) (is_proved : Bool) (files before after : List File) (old new a b : Option (List ℕ)) (e : Ended) → AreLogs held w (logged logs) → HoldsBytes held name bytes → AnswersTest bytes w text is_proved files → b ≡ a
+      → IsGiven (logged logs) (are_named logs) text is_proved files old new before after e → Ends held w name old new a b before after e
+  answered logs bytes text is_proved files before after old new a b e are holds answer same is =
+      subst (λ (o : Option (List ℕ)). Ends held w name old new a o before after e) (sym same) (given_early logs text is_proved files before after old new a e are (bytes, holds, answer) is)

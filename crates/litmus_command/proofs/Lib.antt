@@ -1,13 +1,17 @@
 pub mod Adding
 pub mod Answering
+pub mod Early
 pub mod Ends
+pub mod Explained
 pub mod Finding
 pub mod Fitting
+pub mod Kept
 pub mod Lines
 pub mod Logged
 pub mod Machine
 pub mod Naming
 pub mod Numbers
 pub mod Stopping
+pub mod Told
 pub mod Walking
 pub mod Words

@@ -1,15 +1,14 @@
 -- Words read one after another.
 use Rattle.std.proofs.Common.{◌≡◌, ◌∙◌, ◌≤◌, ℕ, true, false, List, [], ◌∷◌, ◌++◌, Some, None, Ok, Err, ap, arith, get_or, inl, inr, length, map, refl, subst, sym, Option, Result}
 use Rattle.command_files.specs.Contents.{Contents}
-use Rattle.litmus_command.specs.Line.{AreAnswered, IsLineOf}
+use Rattle.litmus_command.specs.Line.{AreDone, AreStarved, IsExplained, IsLineOf}
 use Rattle.std.specs.Borrow.{Bor}
 use Rattle.litmus_command.specs.Requests.{IsWhy, ReadsOn, Takes, read_on, texts}
 use Rattle.litmus_command.specs.declared.wanted.Reading.{Reading as State}
-use Rattle.litmus_command.specs.Waiting.{IsExplained}
 use Rattle.litmus_command.specs.Wishes.{Reading, Wishes, alone, is_option, of_tests, read, valued, wishes}
 use Rattle.litmus_command.specs.declared.wanted.Misuse.{Misuse}
 use Rattle.litmus_command.specs.declared.wanted.Misuse.TheVariants as misuse
-use Rattle.litmus_command.proofs.Walking.{answered_none}
+use Rattle.litmus_command.proofs.Kept.{done_none}
 
 -- ---- one more word
 
@@ -76,23 +75,19 @@ refused_on text old (x ∷ rest) first word whole why some is same so refuses =
 
 -- ---- the whole line
 
-module _ (held : Contents) (old new : Option (List ℕ)) (status : ℕ) where
-  no_memory : (said : Reading) → status ≡ 4 → new ≡ old → IsLineOf said held old new status
-  no_memory (Err misuse.Help) four same = inr four
-  no_memory (Err misuse.Option) four same = (inr four, same)
-  no_memory (Err misuse.Value) four same = (inr four, same)
-  no_memory (Err misuse.NoFile) four same = (inr four, same)
-  no_memory (Err misuse.NoMemory) four same = (inr four, same)
-  no_memory (Ok request) four same = subst (λ (n : Option (List ℕ)). AreAnswered held (of_tests request.0) request.1 old n status) (sym same) (answered_none held (of_tests request.0) request.1 old status four)
+module _ (held : Contents) (old new a b : Option (List ℕ)) (status : ℕ) where
+  no_memory : (said : Reading) → AreStarved old new a b status → IsLineOf said held held old new a b status
+  no_memory (Err why) is = (inr is, refl)
+  no_memory (Ok request) is = subst (λ (n : Option (List ℕ)). AreDone held held (of_tests request.0) request.1 old n a b status) (sym is.same) (done_none held held (of_tests request.0) request.1 old a status a b is.four refl is.told refl)
 
   -- words that don't fit, or ask for help
-  pub explained : (said : Reading) (why : Misuse) → IsWhy said why → IsExplained why old new status → IsLineOf said held old new status
-  explained said misuse.NoMemory why is = no_memory said is.0 is.1
-  explained said misuse.Help why is = subst (λ (s : Reading). IsLineOf s held old new status) (sym why) (inl is)
-  explained said misuse.Option why is = subst (λ (s : Reading). IsLineOf s held old new status) (sym why) (inl is.0, is.1)
-  explained said misuse.Value why is = subst (λ (s : Reading). IsLineOf s held old new status) (sym why) (inl is.0, is.1)
-  explained said misuse.NoFile why is = subst (λ (s : Reading). IsLineOf s held old new status) (sym why) (inl is.0, is.1)
+  pub explained : (said : Reading) (why : Misuse) → IsWhy said why → IsExplained why old new a b status → IsLineOf said held held old new a b status
+  explained said misuse.NoMemory why is = no_memory said is
+  explained said misuse.Help why is = subst (λ (s : Reading). IsLineOf s held held old new a b status) (sym why) (inl is, refl)
+  explained said misuse.Option why is = subst (λ (s : Reading). IsLineOf s held held old new a b status) (sym why) (inl is, refl)
+  explained said misuse.Value why is = subst (λ (s : Reading). IsLineOf s held held old new a b status) (sym why) (inl is, refl)
+  explained said misuse.NoFile why is = subst (λ (s : Reading). IsLineOf s held held old new a b status) (sym why) (inl is, refl)
 
   -- words that ask for tests
-  pub requested : (said : Reading) (w : Wishes) (names : List (List ℕ)) → said ≡ Ok (w, names) → AreAnswered held (of_tests w) names old new status → IsLineOf said held old new status
-  requested said w names is answered = subst (λ (s : Reading). IsLineOf s held old new status) (sym is) answered
+  pub requested : (left : Contents) (said : Reading) (w : Wishes) (names : List (List ℕ)) → said ≡ Ok (w, names) → AreDone held left (of_tests w) names old new a b status → IsLineOf said held left old new a b status
+  requested left said w names is done = subst (λ (s : Reading). IsLineOf s held left old new a b status) (sym is) done

@@ -18,7 +18,10 @@ use Rattle.litmus_answers.specs.Layouts.{IsLayout}
 use Rattle.litmus_command.specs.Programs.{IsNoProgram, IsProgram}
 use Rattle.litmus_command.specs.declared.fault.Halt.{Halt}
 use Rattle.litmus_command.specs.declared.fault.Halt.TheVariants as halt
+use Rattle.litmus_command.specs.Explaining.{ExplainsIn}
+use Rattle.litmus_command.specs.Files.{File}
 use Rattle.litmus_command.specs.Wishes.{Wishes}
+use Rattle.machine_types.specs.declared.config.Config.{Config}
 use Rattle.litmus_text.specs.Tests.{meaning, test_in}
 use Rattle.architecture_outcomes.specs.Complete.{TellsEachAllowed}
 use Rattle.architecture_outcomes.specs.Outcomes.{IsWitnessed, TellsEachEnd, ends_of}
@@ -74,22 +77,24 @@ pub record IsSearch (machine : Bool) (p : Program) (addresses : List ℕ) (searc
   pub each_end : IsTrue search.has_machine → TellsEachEnd p.image p.config addresses search.outcomes.items
   pub whole : IsTrue search.is_whole → TellsEach machine p addresses search.outcomes.items
 
--- a text answers a test by what a search found: each state that counts is told once, in order; the answer is proved where a state settles it, or where the search says that no state is missing
-pub record Answers (brief machine : Bool) (test : Test) (layout : Layout) (search : Findings) (text : List ℕ) (is_proved : Bool) : Type 0 where
+-- a text answers a test by what a search found: each state that counts is told once, in order; the answer is proved where a state settles it, or where the search says that no state is missing; and the files explain it
+pub record Answers (w : Wishes) (test : Test) (layout : Layout) (config : Config) (search : Findings) (text : List ℕ) (is_proved : Bool) (files : List File) : Type 0 where
   pub states : List (Vec ℕ)
   pub are_states : AreStates layout test.asking.filter of.All search.outcomes.items states
   pub report : Report
   pub is_report : IsReport test layout states search.is_whole report
-  pub is_text : IsText brief machine test layout search report text
+  pub is_text : IsText w.brief w.machine test layout search report text
   pub proved : is_proved ≡ (settles report.kind report.answer || search.is_whole)
+  pub explained : ExplainsIn w.scripts test layout config search.outcomes.items states files
 
--- the text answers a test that is laid out so, as it is wished, by a search of exactly this program, on a machine of its harts and of the model that is wished
-pub record IsAnswer (test : Test) (layout : Layout) (wishes : Wishes) (text : List ℕ) (is_proved : Bool) : Type 0 where
+-- the text answers a test that is laid out so, as it is wished, by a search of exactly this program in which memory didn't end, on a machine of its harts and of the model that is wished
+pub record IsAnswer (test : Test) (layout : Layout) (wishes : Wishes) (text : List ℕ) (is_proved : Bool) (files : List File) : Type 0 where
   pub program : Program
   pub is_program : IsProgram test.harts wishes.model layout program
   pub search : Findings
   pub is_search : IsSearch wishes.machine program layout.addresses.items search
-  pub answers : Answers wishes.brief wishes.machine test layout search text is_proved
+  pub fed : search.is_starved ≡ false
+  pub answers : Answers wishes test layout program.config search text is_proved files
 
 -- why a test that is laid out so isn't answered: a hart stops at an end that a search of its program tells, or there is no such program; or memory was refused
 abbrev pub IsHalt : Test → Layout → Wishes → Halt → Type 0
@@ -99,9 +104,9 @@ IsHalt test layout w halt.Unfit = IsNoProgram test.harts layout halt.Unfit
 IsHalt test layout w halt.NoMemory = Unit {0}
 
 -- it answers the test that bytes say, by a search of exactly the program that this test makes
-pub record AnswersTest (bytes : List ℕ) (wishes : Wishes) (text : List ℕ) (is_proved : Bool) : Type 0 where
+pub record AnswersTest (bytes : List ℕ) (wishes : Wishes) (text : List ℕ) (is_proved : Bool) (files : List File) : Type 0 where
   pub test : Test
   pub is_test : test_in bytes ≡ Ok (meaning test)
   pub layout : Layout
   pub is_layout : IsLayout (meaning test) layout
-  pub is_answer : IsAnswer test layout wishes text is_proved
+  pub is_answer : IsAnswer test layout wishes text is_proved files

@@ -3,8 +3,14 @@ pub mod Requests
 pub mod Listing
 pub mod States
 pub mod Programs
+pub mod Files
+pub mod Explaining
+pub mod Telling
+pub mod Keeping
 pub mod Answers
 pub mod Comparing
 pub mod Ended
+pub mod Ahead
+pub mod Reading
 pub mod Line
 pub mod Waiting

@@ -4,6 +4,11 @@ use Rattle.std.specs.Global.{Global}
 use Rattle.std.specs.Str.Lossy.{utf8_lossy}
 use Rattle.text_words.specs.Words.{skip}
 
+-- @ stands before a list's name
+abbrev pub is_list : List ℕ → Bool
+is_list [] = false
+is_list (b ∷ name) = b == 64
+
 -- what is left of bytes from the first slash on
 abbrev pub from_slash : List ℕ → List ℕ
 from_slash [] = []

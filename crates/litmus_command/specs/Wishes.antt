@@ -11,7 +11,7 @@ use Rattle.litmus_command.specs.declared.wanted.Misuse.{Misuse}
 use Rattle.litmus_command.specs.declared.wanted.Misuse.TheVariants as misuse
 use Rattle.litmus_command.specs.declared.wanted.Wanted.{Wanted}
 
--- under which model, of the machine alone or not, a line a test or a block, with how large windows and how many states at most, and the logs that are named
+-- under which model, of the machine alone or not, a line a test or a block, with how large windows and how many states at most, the logs that are named, the folder for what explains the answers, and how many tests at a time
 pub record Wishes : Type 0 where
   pub model : MemoryModel
   pub machine : Bool
@@ -20,13 +20,15 @@ pub record Wishes : Type 0 where
   pub states : ℕ
   pub expect : Option (List ℕ)
   pub seen : Option (List ℕ)
+  pub scripts : Option (List ℕ)
+  pub threads : Option ℕ
 
 abbrev pub wishes : Wanted → Wishes
-wishes w = record { model = w.model; machine = w.machine; brief = w.brief; window = w.window; states = w.states; expect = option_map (λ name. name.now) w.expect; seen = option_map (λ name. name.now) w.seen }
+wishes w = record { model = w.model; machine = w.machine; brief = w.brief; window = w.window; states = w.states; expect = option_map (λ name. name.now) w.expect; seen = option_map (λ name. name.now) w.seen; scripts = option_map (λ name. name.now) w.scripts; threads = w.threads }
 
 -- where no option is given
 abbrev pub no_wishes : Wishes
-no_wishes = record { model = Rvwmo; machine = false; brief = false; window = 16; states = 4000000; expect = None; seen = None }
+no_wishes = record { model = Rvwmo; machine = false; brief = false; window = 16; states = 4000000; expect = None; seen = None; scripts = None; threads = None }
 
 -- a log is named
 abbrev pub are_compared : Wishes → Bool
@@ -82,6 +84,10 @@ abbrev pub with_states : Wishes → Result ℕ Misuse → Result Wishes Misuse
 with_states w (Ok n) = Ok (record w { states = n })
 with_states w (Err why) = Err why
 
+abbrev pub with_threads : Wishes → Result ℕ Misuse → Result Wishes Misuse
+with_threads w (Ok n) = Ok (record w { threads = Some n })
+with_threads w (Err why) = Err why
+
 -- an option and its value
 abbrev pub valued : (option value : List ℕ) → Wishes → Result Wishes Misuse
 valued option value w =
@@ -90,6 +96,8 @@ valued option value w =
     else if bytes_eq option (codes "--states") then with_states w (number_in 1000000000 value)
     else if bytes_eq option (codes "--expect") then Ok (record w { expect = Some value })
     else if bytes_eq option (codes "--seen") then Ok (record w { seen = Some value })
+    else if bytes_eq option (codes "--scripts") then Ok (record w { scripts = Some value })
+    else if bytes_eq option (codes "--threads") then with_threads w (number_in 64 value)
     else Err misuse.Option
 
 -- ---- words

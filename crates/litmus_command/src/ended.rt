@@ -1,8 +1,6 @@
 //! How files end, and the status that comes of it.
-ghost use Rattle.std.specs.Prelude.{◌≡◌, ◌||◌, nat_lt, true};
+ghost use Rattle.std.specs.Prelude.{◌≡◌, ◌+◌, ◌<◌, ◌^◌, ◌||◌, nat_lt, true};
 ghost use Rattle.litmus_command.specs.Ended as ends;
-
-use std::fmt::{self, Display, Formatter};
 
 /// How a file ended.
 #[derive(Clone, Copy)]
@@ -34,8 +32,7 @@ pub(crate) struct Counts {
 
 impl Counts {
     pub fn none() -> Counts
-        ensures failed { result.failed ≡ 0 }
-        ensures differing { result.differing ≡ 0 }
+        ensures { ends.AreNone result }
     {
         Counts {
             answered: 0,
@@ -59,9 +56,13 @@ impl Counts {
         }
     }
 
+    /// Counts an answer.
     fn count_answer(&mut self, is_proved: bool)
-        ensures failed { self.new.failed ≡ self.old.failed }
+        ensures answered { self.old.answered < 2 ^ 32 → self.new.answered ≡ self.old.answered + 1 }
+        ensures proved { self.old.proved < 2 ^ 32 → self.new.proved ≡ self.old.proved + ends.one_if is_proved }
         ensures differing { self.new.differing ≡ self.old.differing }
+        ensures skipped { self.new.skipped ≡ self.old.skipped }
+        ensures failed { self.new.failed ≡ self.old.failed }
     {
         self.answered = self.answered.saturating_add(1);
         if is_proved {
@@ -71,6 +72,7 @@ impl Counts {
 
     /// Counts a file.
     pub fn count(&mut self, ended: Ended)
+        ensures counted { ends.AreFew self.old → ends.IsCounted ended self.old self.new }
         ensures failed { nat_lt 0 self.new.failed ≡ (nat_lt 0 self.old.failed || ends.is_failed ended) }
         ensures differing { nat_lt 0 self.new.differing ≡ (nat_lt 0 self.old.differing || ends.is_differing ended) }
     {
@@ -87,29 +89,6 @@ impl Counts {
     }
 }
 
-impl Display for Counts {
-    fn fmt<W: fmt::Write>(&self, f: &mut Formatter<W>) -> fmt::Result {
-        let Counts {
-            answered,
-            proved,
-            skipped,
-            failed,
-            ..
-        } = self;
-        write!(f, "{answered} answered, {proved} of them proved")?;
-        if proved < answered {
-            f.write_str(" (a bound was met in searching for the others)")?;
-        }
-        if *skipped > 0 {
-            write!(f, "; {skipped} skipped")?;
-        }
-        if *failed > 0 {
-            write!(f, "; {failed} without a test that can be run")?;
-        }
-        Ok(())
-    }
-}
-
 /// The status with which the command ends where a file ended so, if it does.
 pub(crate) fn final_status(ended: Ended) -> Option<u8>
     ensures { result ≡ ends.final_status ended }
@@ -119,4 +98,11 @@ pub(crate) fn final_status(ended: Ended) -> Option<u8>
         Ended::NoMemory => Some(4),
         Ended::Answered { .. } | Ended::Differs { .. } | Ended::Skipped | Ended::Failed => None,
     }
+}
+
+/// Whether memory was refused.
+pub(crate) fn is_starved(ended: Ended) -> bool
+    ensures { result ≡ ends.is_starved ended }
+{
+    matches!(ended, Ended::NoMemory)
 }

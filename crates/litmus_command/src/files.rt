@@ -38,7 +38,7 @@ fn length_before(mark: u8, bytes: &[u8]) -> usize
 }
 
 /// Without the blanks at the end.
-fn unpadded(line: &[u8]) -> &[u8]
+pub(crate) fn unpadded(line: &[u8]) -> &[u8]
     ensures { result.now ≡ listing.unpadded line.now }
 {
     let mut rest = line;

@@ -32,7 +32,7 @@ pub(crate) struct Program {
 }
 
 /// The words' bytes, of each the lowest first.
-fn bytes_of(alloc: Global, words: &[u32]) -> Result<Vec<u8>, AllocError>
+pub(crate) fn bytes_of(alloc: Global, words: &[u32]) -> Result<Vec<u8>, AllocError>
     ensures { IfOk result (λ bytes. bytes.items ≡ programs.bytes_of words.now) }
 {
     let mut bytes = Vec::new(alloc);

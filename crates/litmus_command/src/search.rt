@@ -9,7 +9,7 @@ use crate::wanted::Wanted;
 use architecture_outcomes::explorer::{Exploration, Exploring, Found, explore};
 use architecture_outcomes::window_search::Reach;
 use architecture_outcomes::{Outcome, Way, explore_architecture};
-use state_search::{Throughout, Unwatched};
+use state_search::{Extent, Throughout, Unwatched};
 use std::alloc::{AllocError, Global};
 use std::mem;
 
@@ -22,6 +22,8 @@ pub(crate) struct Findings {
     pub is_whole: bool,
     /// Whether none that the machine comes to is missing.
     pub has_machine: bool,
+    /// Whether memory ended before more could be found.
+    pub is_starved: bool,
 }
 
 /// The ends as outcomes to which the machine comes.
@@ -41,6 +43,11 @@ fn of_machine(alloc: Global, found: Vec<Found>) -> Result<Vec<Outcome>, AllocErr
         })?;
     }
     Ok(outcomes)
+}
+
+/// Whether memory ended in a search of the machine.
+fn is_starved(extent: Extent) -> bool {
+    extent == Extent::OutOfMemory
 }
 
 /// What the machine comes to.
@@ -73,6 +80,7 @@ fn search_machine(
         outcomes: of_machine(alloc, outcomes)?,
         is_whole: has_machine,
         has_machine,
+        is_starved: is_starved(extent),
     })
 }
 
@@ -112,6 +120,7 @@ fn search_model(
         outcomes,
         is_whole: is_whole(found.reach),
         has_machine: found.machine.is_complete(),
+        is_starved: found.reach == Reach::OutOfMemory || is_starved(found.machine),
     })
 }
 

@@ -23,6 +23,10 @@ pub(crate) struct Wanted<'a> {
     pub expect: Option<&'a str>,
     /// A log each of whose states has to be found.
     pub seen: Option<&'a str>,
+    /// A folder for what explains the answers.
+    pub scripts: Option<&'a str>,
+    /// How many tests are answered at a time.
+    pub threads: Option<u32>,
 }
 
 impl<'a> Wanted<'a> {
@@ -38,12 +42,14 @@ impl<'a> Wanted<'a> {
             states: 4_000_000,
             expect: None,
             seen: None,
+            scripts: None,
+            threads: None,
         }
     }
 
     /// Whether a log is named.
     #[tactic(auto, using(crate::proofs::Logged::some_mapped))]
-    fn has_logs(self) -> bool
+    pub fn has_logs(self) -> bool
         ensures { result ≡ wishes.are_compared (wishes.wishes self.entry) }
     {
         self.expect.is_some() || self.seen.is_some()
@@ -159,6 +165,10 @@ fn take_valued<'a>(wanted: &mut Wanted<'a>, option: &str, value: &'a str) -> Res
         wanted.expect = Some(value);
     } else if option == "--seen" {
         wanted.seen = Some(value);
+    } else if option == "--scripts" {
+        wanted.scripts = Some(value);
+    } else if option == "--threads" {
+        wanted.threads = Some(number_of(value, 64)?);
     } else {
         return Err(Misuse::Option);
     }

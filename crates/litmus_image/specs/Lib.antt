@@ -4,3 +4,4 @@ pub mod Labels
 pub mod Code
 pub mod Tail
 pub mod Image
+pub mod Marks

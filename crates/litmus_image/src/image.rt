@@ -29,7 +29,7 @@ pub const MOST_HARTS: usize = 8;
 const MOST_LINES: usize = 1 << 20;
 
 /// A hart's part: what sets its registers, its code, and what puts its registers out.
-fn put_part(out: &mut Vec<Instr>, part: &Part) -> Result<(), CodeError>
+pub(crate) fn put_part(out: &mut Vec<Instr>, part: &Part) -> Result<(), CodeError>
     ensures { Puts out.old.items out.new.items result (image.part_code part.now) }
 {
     let line = part.lines.len();

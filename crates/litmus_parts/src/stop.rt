@@ -105,7 +105,7 @@ pub enum Cause {
     OtherLabel,
     /// A label that the branch reaches.
     Near,
-    /// At most 500 instructions in a column.
+    /// At most 1,024 instructions of all harts, beginnings and ends among them.
     FewInstructions,
     /// At most 64 locations.
     FewLocations,

@@ -1,15 +1,17 @@
-use Rattle.std.proofs.Common.{◌≡◌, ◌-◌, ◌≤◌}
+use Rattle.std.proofs.Common.{◌≡◌, ◌-◌, ◌≤◌, All}
+use Rattle.litmus_command.specs.Ahead.{IsEarly}
+use Rattle.litmus_command.specs.Files.{files_of}
 use Rattle.litmus_command.specs.Line.{IsUnderWay}
-use Rattle.litmus_command.specs.Requests.{texts}
 use Rattle.litmus_command.specs.Waiting.{waiting}
 use Rattle.litmus_command.specs.Wishes.{wishes}
 use Rattle.litmus_command.proofs.line.answer_all.Given as goal
 
 abbrev pub invariant-loop-taken : goal.invariant-loop-taken
 invariant-loop-taken g l = record {
-  way : IsUnderWay (g.F.Files.held l.initial.files) (wishes l.wanted) (texts l.names) (g.O.Write.contents l.initial.out) (g.O.Write.contents l.out) (waiting l.pending.items) l.taken l.lists l.counts;
+  way : IsUnderWay (g.F.Files.held l.initial.files) (wishes l.task.wanted) (waiting l.initial.walk.pending.items) (g.O.Write.contents l.initial.out) (g.O.Write.contents l.out) (g.E.Write.contents l.initial.err) (g.E.Write.contents l.err) (files_of l.walk.answers.kept.items) (waiting l.walk.pending.items) l.taken l.walk.lists l.walk.counts;
+  early : All (IsEarly (g.F.Files.held l.initial.files) (wishes l.task.wanted)) l.walk.answers.ahead.answers.items;
   stays : g.F.Files.held l.files ≡ g.F.Files.held l.initial.files;
-  lists : l.lists ≤ 1000;
+  lists : l.walk.lists ≤ 1000;
   few : l.taken ≤ 1000000;
 }
 

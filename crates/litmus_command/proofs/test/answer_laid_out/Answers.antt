@@ -22,6 +22,7 @@ returns c =
         is_program = c.in_ok-program.ensures.program;
         search = c.in_ok-found.found;
         is_search = searched;
+        fed = c.if-found.false;
         answers = answers;
       }) c.reply_by.ensures.answers;
     }

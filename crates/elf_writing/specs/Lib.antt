@@ -1,0 +1,4 @@
+pub mod Fields
+pub mod Names
+pub mod Text
+pub mod ReadBack
