@@ -4,7 +4,7 @@ use crate::failing::Failing;
 use crate::outcome::Outcome;
 use machine_types::MemoryModel;
 use state_search::Extent;
-use window_search::Reach;
+use window_search::{Hangs, Reach};
 
 /// What is found of a program under a memory model. What is known of it stands at `explore_architecture`.
 pub struct Architecture {
@@ -12,6 +12,8 @@ pub struct Architecture {
     pub outcomes: Vec<Outcome>,
     /// Harts that stop, whatever the other harts do then, each once with its code and where; those of the machine first.
     pub failures: Vec<Failing>,
+    /// Runs of the model from which none goes on to the ends of all harts, where its search left nothing out.
+    pub hangs: Hangs,
     /// The model under which they are allowed.
     pub model: MemoryModel,
     /// How many operations of a hart might wait.
@@ -32,6 +34,7 @@ impl Drop for Architecture {
         let Architecture {
             outcomes: _,
             failures: _,
+            hangs: _,
             model: _,
             window: _,
             reach: _,

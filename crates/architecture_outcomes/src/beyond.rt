@@ -7,6 +7,7 @@ ghost use Rattle.architecture_outcomes.specs.Outcomes.{IsDecided, IsWitnessed, T
 ghost use Rattle.performed_words.specs.Words.{are_aligned};
 ghost use Rattle.window_search.specs.WindowModelComplete.{TellsEachAllowed};
 ghost use Rattle.window_search.specs.FailingRuns.{TellsEachFailing};
+ghost use Rattle.window_search.specs.Hanging.{AreApart, IsHungRun};
 ghost use Rattle.window_search.specs.Met.{HasMet};
 ghost use Rattle.window_search.specs.LeftOut.{keeps_limit};
 ghost use Rattle.window_search.specs.Stops.{AreOnce, IsFailedRun, TellsFirst, failures_of};
@@ -22,7 +23,7 @@ use machine_types::Config;
 use performed_words::words_of;
 use state_search::{Ending, Extent, Watch};
 use std::alloc::{AllocError, Global};
-use window_search::{Allowed, Reach, Seek, search_growing};
+use window_search::{Allowed, Hangs, Reach, Seek, search_growing};
 use witnesses::Witness;
 
 /// What a search under the memory model finds; nothing, where memory ends in it, or the machine's own search, which came so far,
@@ -44,6 +45,8 @@ pub(crate) fn search_model<W: Watch, S: Seek>(
     ensures failing { result.reach ≡ Reach.Whole → TellsEachFailing image.now config (failures_of result.failures.items) }
     ensures failed { All (IsFailedRun image.now config) result.failures.items }
     ensures failed_once { AreOnce (failures_of result.failures.items) }
+    ensures hung { All (IsHungRun image.now config) result.hangs.runs.items }
+    ensures hung_once { AreApart result.hangs.runs.items }
     ensures opens { result.reach ≡ Reach.Whole → 0 < result.states }
     ensures bounded { keeps_limit result.reach ≡ true → result.states ≤ limit }
     ensures limited { result.reach ≡ Reach.LimitMet → limit < result.states }
@@ -67,10 +70,12 @@ fn nothing(alloc: Global, reach: Reach) -> Allowed
     ensures states { result.states ≡ 0 }
     ensures witnesses { result.witnesses.items ≡ [] }
     ensures failures { result.failures.items ≡ [] }
+    ensures hangs { result.hangs.runs.items ≡ [] }
 {
     Allowed {
         witnesses: Vec::new(alloc),
         failures: Vec::new(alloc),
+        hangs: Hangs::unknown(alloc),
         reach,
         states: 0,
     }

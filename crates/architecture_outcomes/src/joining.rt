@@ -7,6 +7,7 @@ ghost use Rattle.architecture_outcomes.specs.Outcomes.{IsDecided, IsWitnessed, T
 ghost use Rattle.architecture_outcomes.specs.Visited.{AreMachineStates, TellsEnd};
 ghost use Rattle.witnesses.specs.Flat.{Flat};
 ghost use Rattle.window_search.specs.WindowModelComplete.{TellsEachAllowed};
+ghost use Rattle.window_search.specs.Hanging.{AreApart, IsHungRun};
 ghost use Rattle.window_search.specs.LeftOut.{keeps_limit};
 ghost use Rattle.window_search.specs.Met.{HasMet};
 ghost use Rattle.window_search.specs.FailingRuns.{TellsEachFailing};
@@ -97,6 +98,10 @@ pub fn explore_architecture<W: Watch, M: exploration_text::explorer::Seek, S: Se
     ensures stopped_machine { IfOk result (λ a. a.machine ≡ Extent.Complete → TellsEachStop image.now config a.failures.items) }
     ensures stopped_alone { IfOk result (λ a. a.machine ≡ Extent.Complete → All IsDecidedStop a.failures.items) }
 
+    // Each run that is said to hang does, under the model, and none is told twice.
+    ensures hung { IfOk result (λ a. All (IsHungRun image.now config) a.hangs.runs.items) }
+    ensures hung_once { IfOk result (λ a. AreApart a.hangs.runs.items) }
+
     // The search under the model finds no state only where it says that it left out more.
     ensures opens { IfOk result (λ a. a.reach ≡ Reach.Whole → 0 < a.states) }
     ensures bounded { IfOk result (λ a. keeps_limit a.reach ≡ true → a.states ≤ exploring.limit) }
@@ -127,29 +132,23 @@ pub fn explore_architecture<W: Watch, M: exploration_text::explorer::Seek, S: Se
     let behind = Behind::new(watch, machine_states, found.len());
     let limit = exploring.limit;
     let Allowed {
-        witnesses,
+        witnesses: runs,
         failures,
+        hangs,
         reach,
         states,
     } = search_model(
         alloc, image, config, addresses, window, limit, extent, &behind, model,
     );
     let is_complete = extent.is_complete();
-    let mut outcomes = beyond(
-        alloc,
-        image,
-        config,
-        addresses,
-        &found,
-        is_complete,
-        witnesses,
-    )?;
+    let mut outcomes = beyond(alloc, image, config, addresses, &found, is_complete, runs)?;
     outcomes.append(&mut found)?;
     outcomes.sort_unstable();
     add_each_beyond(&mut stopped, failures, is_complete)?;
     Ok(Architecture {
         outcomes,
         failures: stopped,
+        hangs,
         model: config.model,
         window,
         reach,

@@ -36,9 +36,10 @@ use Rattle.window_model.proofs.following.Lists.{hart_fetched, output_fetched}
 use Rattle.window_model.proofs.following.Paths.{CanFetchLists, PlacedAll, SameEnd, State, can_fetch_lists, ends_on, fetched_from, fetched_kept_at, harts_present, have_ended, leads_append, nothing_waits, place_all, prefix, remains}
 use Rattle.window_model.proofs.following.Whole.{Legal}
 use Rattle.window_hangs.specs.Hanging.{GoesOn, IsSoFar}
-use Rattle.window_hangs.specs.Laws.{IsBehind, IsFollowedOn, RunsAreFollowedOn, StandsBehind}
+use Rattle.window_hangs.specs.Laws.{IsBehind, IsFollowedOn, RunsAreFollowedOn, StandsBehind, leaves_reserved}
 use Rattle.window_hangs.proofs.Beginnings.{ListsContinue, operations_continue, stands_later}
 use Rattle.window_hangs.proofs.Seen.{within_reset}
+use Rattle.window_hangs.proofs.Unreserved.{KeepsNone, none_left}
 use Rattle.window_hangs.proofs.Walking.{Both, FetchedAt, Walked, fetch_more, walk}
 
 -- ---- a hart behind its list has fetched more behind a longer one
@@ -111,7 +112,7 @@ within_from model image harts id (x ∷ xs) (suc h) n e = within_from model imag
 -- ---- where a run stands once its whole order is placed
 
 module _ (model : MemoryModel) (t : History) (end : System) (state : State model (image_of t) (instructions t) (operations_at (instructions t) t.performed) [] end) (within : AllWithin end)
-    (same : Pairs SameEnd (fetched_from model t.image (length t.entries) 0 t.entries) end.nodes) where
+    (same : Pairs SameEnd (fetched_from model t.image (length t.entries) 0 t.entries) end.nodes) (keeps : Pairs KeepsNone (fetched_from model t.image (length t.entries) 0 t.entries) end.nodes) where
   empty : (h : ℕ) (n : Node) → slice_get end.nodes h ≡ Some n → n.window ≡ []
   empty h n e = let k = state.harts h n e in nothing_waits model (items_of (instructions t) h) k.ops n.window k.ops k.kept.window (λ j a f. k.kept.waits j a f)
 
@@ -123,6 +124,7 @@ module _ (model : MemoryModel) (t : History) (end : System) (state : State model
     loads = none_of n.loads inside.loads;
     stores = none_of n.stores inside.stores;
     window = empty h n e;
+    reserved = λ left. unreserved left;
   }
     where
       reset : Node
@@ -145,6 +147,15 @@ module _ (model : MemoryModel) (t : History) (end : System) (state : State model
 
       ends : SameEnd other.other n
       ends = other.belongs
+
+      unreserved : leaves_reserved false entries ≡ false → n.reserved ≡ None
+      unreserved left =
+          let other_none : Beside (λ (y : Node) (x : Node). KeepsNone x y) (fetched_from model t.image (length t.entries) 0 t.entries) n h = pairs_right KeepsNone (fetched_from model t.image (length t.entries) 0 t.entries) end.nodes h n keeps e in
+          let same : 0 + h ≡ h = omega arith in
+          let there : other_none.other ≡ fetched_all model reset entries =
+          same_Some other_none.other (fetched_all model reset entries)
+          (sym other_none.stands ∙ from_at model t.image (length t.entries) 0 t.entries h entries f ∙ ap (λ k. Some (fetched_all model (node_at_reset t.image (length t.entries) k) entries)) same) in
+          other_none.belongs (ap (λ (m : Node). m.reserved) there ∙ none_left model reset entries false (λ none. refl) left)
 
   behind : IsBehind t end
   behind = record {
@@ -249,7 +260,7 @@ module _ (config : Config) (seen : (ℕ → ℕ) → Bool) (t u : History) (so_f
   follow_on : IsFollowedOn t.image config seen t u
   follow_on = record {
     there = walked.end_t;
-    behind = behind config.model t walked.end_t walked.both.state_t walked.both.within walked.same_t;
+    behind = behind config.model t walked.end_t walked.both.state_t walked.both.within walked.same_t walked.none_t;
     saw = saw;
     steps = fetching.0 ++ placing.steps;
     end = placing.end;

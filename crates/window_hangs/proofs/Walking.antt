@@ -29,6 +29,7 @@ use Rattle.window_model.proofs.following.Whole.{Legal, member_left, member_parts
 use Rattle.window_hangs.proofs.Apart.{AdmitsFirst, PlacesFirst, admits_first, places_first}
 use Rattle.window_hangs.proofs.Placing.{PlacedAt, place_at, placed_at}
 use Rattle.window_hangs.proofs.Positions.{HasAll, same_position}
+use Rattle.window_hangs.proofs.Unreserved.{KeepsNone, keep_none, none_on, none_placed}
 
 -- ---- fetching more
 
@@ -110,6 +111,7 @@ module _ (model : MemoryModel) (image : Initial) (bytes : ℕ → ℕ) (all_t al
     both : Both (done ++ b ∷ []) rest new_s new_v
     same_t : Pairs SameEnd s.nodes new_s.nodes
     same_u : Pairs SameEnd v.nodes new_v.nodes
+    none_t : Pairs KeepsNone s.nodes new_s.nodes
 
   -- nodes of the hart of b
   module _ (done : List Operation) (b : Operation) (rest : List Operation) (s v : System) (split : whole ≡ done ++ b ∷ rest) (both : Both done (b ∷ rest) s v)
@@ -222,6 +224,7 @@ module _ (model : MemoryModel) (image : Initial) (bytes : ℕ → ℕ) (all_t al
       };
       same_t = place_t.same;
       same_u = place_u.same;
+      none_t = none_placed place_t.operation s.nodes b.hart at_t.position n at_n;
     }
 
   -- ---- a whole order
@@ -232,12 +235,13 @@ module _ (model : MemoryModel) (image : Initial) (bytes : ℕ → ℕ) (all_t al
     pub both : Both whole [] end_t end_u
     pub same_t : Pairs SameEnd s.nodes end_t.nodes
     pub same_u : Pairs SameEnd v.nodes end_u.nodes
+    pub none_t : Pairs KeepsNone s.nodes end_t.nodes
 
   pub walk : (done rest : List Operation) (s v : System) → whole ≡ done ++ rest → Both done rest s v → Walked s v
-  walk done [] s v split both = record { end_t = s; end_u = v; both = subst (λ ops. Both ops [] s v) (sym (split ∙ append-nil done)) both; same_t = same_ends s.nodes; same_u = same_ends v.nodes }
+  walk done [] s v split both = record { end_t = s; end_u = v; both = subst (λ ops. Both ops [] s v) (sym (split ∙ append-nil done)) both; same_t = same_ends s.nodes; same_u = same_ends v.nodes; none_t = keep_none s.nodes }
   walk done (b ∷ rest) s v split both =
       let n = both.state_t.present b (inl refl) in
       let m = both.state_u.present b (inl refl) in
       let one : Stepped done b rest s v = stepped done b rest s v split both n.0 m.0 n.1 m.1 in
       let others = walk (done ++ b ∷ []) rest one.new_s one.new_v (split ∙ sym (append_assoc done (b ∷ []) rest)) one.both in
-      record { end_t = others.end_t; end_u = others.end_u; both = others.both; same_t = ends_on s.nodes one.new_s.nodes others.end_t.nodes one.same_t others.same_t; same_u = ends_on v.nodes one.new_v.nodes others.end_u.nodes one.same_u others.same_u }
+      record { end_t = others.end_t; end_u = others.end_u; both = others.both; same_t = ends_on s.nodes one.new_s.nodes others.end_t.nodes one.same_t others.same_t; same_u = ends_on v.nodes one.new_v.nodes others.end_u.nodes one.same_u others.same_u; none_t = none_on s.nodes one.new_s.nodes others.end_t.nodes one.none_t others.none_t }

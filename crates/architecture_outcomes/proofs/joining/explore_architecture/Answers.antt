@@ -58,10 +58,10 @@ pub returns-clause-allowed : goal.returns-clause-allowed
 returns-clause-allowed g c whole =
     let found = c.in_ok-found.field-0.outcomes.items in
     let joined : c.append.new.self.items ≡ c.in_ok-outcomes.outcomes.items ++ found = search rules in
-    all_allowed c.args.image.now c.args.config c.args.addresses.now c.search_model-witnesses.result.witnesses.items found c.in_ok-outcomes.outcomes.items c.append.new.self.items c.sort_unstable.new.self.items
+    all_allowed c.args.image.now c.args.config c.args.addresses.now c.search_model-runs.result.witnesses.items found c.in_ok-outcomes.outcomes.items c.append.new.self.items c.sort_unstable.new.self.items
     joined c.sort_unstable.ensures.permutation
-    (subst (λ (fs : List Outcome). TellEach (endings_of c.args.addresses.now c.search_model-witnesses.result.witnesses.items) fs c.in_ok-outcomes.outcomes.items) c.deref.ensures.value c.in_ok-outcomes.ensures.all)
-    (c.search_model-witnesses.ensures.allowed whole)
+    (subst (λ (fs : List Outcome). TellEach (endings_of c.args.addresses.now c.search_model-runs.result.witnesses.items) fs c.in_ok-outcomes.outcomes.items) c.deref.ensures.value c.in_ok-outcomes.ensures.all)
+    (c.search_model-runs.ensures.allowed whole)
 
 pub returns-clause-first : goal.returns-clause-first
 returns-clause-first g c = λ first.
@@ -72,18 +72,18 @@ returns-clause-first g c = λ first.
     machine_sought _ _ _ _ c.in_ok-found.field-0.failures.items c.add_each_beyond.new.failings.items found c.in_ok-outcomes.outcomes.items c.append.new.self.items c.sort_unstable.new.self.items joined c.sort_unstable.ensures.permutation c.add_each_beyond.ensures.grown
     (c.in_ok-found.ensures.first ended))
     (λ sought.
-    model_sought _ _ _ _ c.args.image.now c.args.config c.args.addresses.now c.search_model-witnesses.result.witnesses.items c.search_model-witnesses.result.failures.items c.add_each_beyond.new.failings.items found c.in_ok-outcomes.outcomes.items c.append.new.self.items
+    model_sought _ _ _ _ c.args.image.now c.args.config c.args.addresses.now c.search_model-runs.result.witnesses.items c.search_model-runs.result.failures.items c.add_each_beyond.new.failings.items found c.in_ok-outcomes.outcomes.items c.append.new.self.items
     c.sort_unstable.new.self.items joined c.sort_unstable.ensures.permutation c.in_ok-add_each_beyond.ensures.added
-    (subst (λ (fs : List Outcome). TellEach (endings_of c.args.addresses.now c.search_model-witnesses.result.witnesses.items) fs c.in_ok-outcomes.outcomes.items) c.deref.ensures.value c.in_ok-outcomes.ensures.all)
-    c.search_model-witnesses.ensures.witnessed sought)
-    (c.search_model-witnesses.ensures.first first)
+    (subst (λ (fs : List Outcome). TellEach (endings_of c.args.addresses.now c.search_model-runs.result.witnesses.items) fs c.in_ok-outcomes.outcomes.items) c.deref.ensures.value c.in_ok-outcomes.ensures.all)
+    c.search_model-runs.ensures.witnessed sought)
+    (c.search_model-runs.ensures.first first)
 
 pub returns-clause-failing : goal.returns-clause-failing
-returns-clause-failing g c = λ whole t x failing. c.in_ok-add_each_beyond.ensures.added x (c.search_model-witnesses.ensures.failing whole t x failing)
+returns-clause-failing g c = λ whole t x failing. c.in_ok-add_each_beyond.ensures.added x (c.search_model-runs.ensures.failing whole t x failing)
 
 pub returns-clause-stopped : goal.returns-clause-stopped
 returns-clause-stopped g c =
-    c.add_each_beyond.ensures.shown c.args.image.now c.args.config c.args.addresses.now c.search_model-witnesses.ensures.failed (λ complete. c.in_ok-found.ensures.each_stopped (c.is_complete-is_complete.ensures.0 complete)) c.in_ok-found.ensures.stopped
+    c.add_each_beyond.ensures.shown c.args.image.now c.args.config c.args.addresses.now c.search_model-runs.ensures.failed (λ complete. c.in_ok-found.ensures.each_stopped (c.is_complete-is_complete.ensures.0 complete)) c.in_ok-found.ensures.stopped
 
 pub returns-clause-stopped_once : goal.returns-clause-stopped_once
 returns-clause-stopped_once g c = c.add_each_beyond.ensures.once c.in_ok-found.ensures.stopped_once
@@ -95,4 +95,4 @@ pub returns-clause-stopped_alone : goal.returns-clause-stopped_alone
 returns-clause-stopped_alone g c = λ all. c.add_each_beyond.ensures.decided (c.is_complete-is_complete.ensures.1 all) c.in_ok-found.ensures.stopped_machine
 
 pub returns-clause-timed : goal.returns-clause-timed
-returns-clause-timed g c = λ timed. ⊎_elim (λ ended. inl (c.in_ok-found.ensures.timed ended)) (λ late. inr late) (c.search_model-witnesses.ensures.timed timed)
+returns-clause-timed g c = λ timed. ⊎_elim (λ ended. inl (c.in_ok-found.ensures.timed ended)) (λ late. inr late) (c.search_model-runs.ensures.timed timed)
