@@ -8,13 +8,10 @@ light and in dark, in a window of 1,600 pixels. No two texts may overlap, none s
 a title, and a picture of one or two lines of memory is at most 1,600 pixels wide. Screenshots are left in FOLDER, where one is
 named: look at them. Prints each picture that isn't so, and how many were opened; the status is 1 where one isn't.
 """
-import pathlib
-import shutil
 import subprocess
 import sys
-import tempfile
 
-from seen_pages import Browser, KEPT, RVTL, Tab, TOP
+from seen_pages import KEPT, RVTL, TOP, Tab, opened
 
 WIDE, HIGH = 1600, 1000
 
@@ -74,28 +71,5 @@ def looked_at(browser, room, shots):
             yield f"{name}-{scheme}", found
 
 
-def main():
-    if not shutil.which("chromium"):
-        print("chromium isn't on PATH", file=sys.stderr)
-        return 2
-    count = wrong = 0
-    with tempfile.TemporaryDirectory(ignore_cleanup_errors=True) as folder:
-        room = pathlib.Path(folder)
-        shots = pathlib.Path(sys.argv[1]) if len(sys.argv) > 1 else room / "shots"
-        shots.mkdir(parents=True, exist_ok=True)
-        browser = Browser(room / "chromium")
-        try:
-            for name, found in looked_at(browser, room, shots):
-                count += 1
-                wrong += bool(found)
-                for it in found[:8]:
-                    print(f"{name}: {it}")
-        finally:
-            browser.process.terminate()
-            browser.process.wait()
-    print(f"{count} pictures opened, {wrong} otherwise than they should be")
-    return 1 if wrong or not count else 0
-
-
 if __name__ == "__main__":
-    sys.exit(main())
+    sys.exit(opened(looked_at, "picture"))

@@ -318,28 +318,29 @@ def seen(browser, room, shots):
                 browser.call("Target.closeTarget", targetId=tab.target)
 
 
-def main():
+def opened(looked_at, what):
+    """Opens what is to be looked at, prints what is otherwise than it should be and how many were opened, and returns the status."""
     if not shutil.which("chromium"):
-        print("chromium isn't on PATH: no page was opened", file=sys.stderr)
+        print(f"chromium isn't on PATH: no {what} was opened", file=sys.stderr)
         return 2
-    pages, wrong = 0, 0
+    count = wrong = 0
     with tempfile.TemporaryDirectory(ignore_cleanup_errors=True) as folder:
         room = pathlib.Path(folder)
         shots = pathlib.Path(sys.argv[1]) if len(sys.argv) > 1 else room / "shots"
         shots.mkdir(parents=True, exist_ok=True)
         browser = Browser(room / "chromium")
         try:
-            for name, differs in seen(browser, room, shots):
-                pages += 1
+            for name, differs in looked_at(browser, room, shots):
+                count += 1
                 wrong += bool(differs)
                 for it in differs[:8]:
                     print(f"{name}: {it}")
         finally:
             browser.process.terminate()
             browser.process.wait()
-    print(f"{pages} pages opened, {wrong} otherwise than told")
-    return 1 if wrong or not pages else 0
+    print(f"{count} {what}s opened, {wrong} otherwise than they should be")
+    return 1 if wrong or not count else 0
 
 
 if __name__ == "__main__":
-    sys.exit(main())
+    sys.exit(opened(seen, "page"))
